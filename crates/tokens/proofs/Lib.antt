@@ -1,0 +1,5 @@
+pub mod Checks
+pub mod Cuts
+pub mod Firsts
+pub mod Runs
+pub mod Spaces
