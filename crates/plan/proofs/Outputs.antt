@@ -27,9 +27,9 @@ use Rattle.plan.proofs.Parts.{plan-line-one}
 not-refused : (line ds es : List ℕ) (f : Fault) → IsPlanLine line ds es → WithinLimits es → LineFault line f → ⊥
 not-refused line ds es f is within =
     ⊎-elim (λ (none, _). none ds es is) (λ (fs, gs, other, limit).
-        let same = plan-line-one line fs gs ds es other is .1 in
-        let clash = limits-one es (Ok tt) (Err f) (within-accepted es within) (subst (λ (l : List ℕ). Limits l (Err f)) same limit) in
-        let z : _≡_ {A = ℕ} 0 1 = cc in omega arith)
+    let same = plan-line-one line fs gs ds es other is .1 in
+    let clash = limits-one es (Ok tt) (Err f) (within-accepted es within) (subst (λ (l : List ℕ). Limits l (Err f)) same limit) in
+    let z : _≡_ {A = ℕ} 0 1 = cc in omega arith)
 
 err-same : (f g : Fault) → _≡_ {A = Result (Unit {0}) Fault} (Err f) (Err g) → f ≡ g
 err-same f g e = cc
@@ -39,8 +39,8 @@ one-fault line f g =
     ⊎-elim
     (λ (none, is). ⊎-elim (λ (_, also). is ∙ sym also) (λ (ds, es, plan, _). absurd (none ds es plan)))
     (λ (ds, es, plan, limit). ⊎-elim (λ (none, _). absurd (none ds es plan)) (λ (fs, gs, other, also).
-        let same = plan-line-one line fs gs ds es other plan .1 in
-        err-same f g (limits-one es (Err f) (Err g) limit (subst (λ (l : List ℕ). Limits l (Err g)) same also))))
+    let same = plan-line-one line fs gs ds es other plan .1 in
+    err-same f g (limits-one es (Err f) (Err g) limit (subst (λ (l : List ℕ). Limits l (Err g)) same also))))
 
 module _ (number : ℕ) (line : List ℕ) where
   one-way : (o q : Outcome) (bs cs : List ℕ) → ComesOut number line o bs → ComesOut number line q cs → _≡_ {A = Entry} (record { outcome = o; bytes = bs }) (record { outcome = q; bytes = cs })
@@ -158,7 +158,8 @@ module _ (input start : List ℕ) (cap : ℕ) (ahead : List (List ℕ)) (count :
   pub sofar-end : (added : List ℕ) × (out ++ tailLine lines pairs ≡ start ++ added) × Output input added
   sofar-end =
       let all = h .split ∙ ap (λ (ls : List (List ℕ)). h .done ++ ls) end ∙ append-nil (h .done) in
-      let tail : tailLine lines pairs ≡ tailLine (linesAdded (h .entries)) (pairsAdded (h .entries)) = λ i. tailLine (h .lines-are i) (h .pairs-are i) in
-      (joined bytesOf (h .entries) ++ tailLine (linesAdded (h .entries)) (pairsAdded (h .entries)),
-      (λ i. h .bytes i ++ tail i) ∙ append-assoc start (joined bytesOf (h .entries)) (tailLine (linesAdded (h .entries)) (pairsAdded (h .entries))),
-      record { entries = h .entries; each = subst (λ (ls : List (List ℕ)). EachComesOut 1 ls (h .entries)) (sym all) (h .each); whole = refl })
+      let tail : tailLine lines pairs ≡ tailLine (linesAdded (h .entries)) (pairsAdded (h .entries)) = λ i. tailLine (h .lines-are i) (h .pairs-are i) in (
+        joined bytesOf (h .entries) ++ tailLine (linesAdded (h .entries)) (pairsAdded (h .entries)),
+        (λ i. h .bytes i ++ tail i) ∙ append-assoc start (joined bytesOf (h .entries)) (tailLine (linesAdded (h .entries)) (pairsAdded (h .entries))),
+        record { entries = h .entries; each = subst (λ (ls : List (List ℕ)). EachComesOut 1 ls (h .entries)) (sym all) (h .each); whole = refl },
+      )

@@ -13,13 +13,6 @@ ghost use Rattle.tokens.specs.Spacing.{respaced, pairsOf};
 ghost use Rattle.plan.specs.Command.{LineFault, ComesOut, ComesOutAs, Output, planLines, roomFor};
 ghost use Rattle.plan.specs.PlanLines.{IsPlanLine};
 ghost use Rattle.plan.specs.Reports.{lineEnd};
-
-use std::alloc::AllocError;
-
-use tokens::Fault;
-use tokens::check_expression;
-use tokens::push_respaced;
-
 use crate::outcome::Outcome;
 use crate::plan_line::PlanLine;
 use crate::plan_lines::PlanLines;
@@ -27,6 +20,10 @@ use crate::plan_lines::PlanLinesIterator;
 use crate::report::push_fault_line;
 use crate::report::push_tail;
 use crate::tally::Tally;
+use std::alloc::AllocError;
+use tokens::Fault;
+use tokens::check_expression;
+use tokens::push_respaced;
 
 // Takes a line apart, and refuses one that is no plan line or whose expression passes a limit.
 fn check_line(line: &[u8]) -> Result<PlanLine<'_>, Fault>

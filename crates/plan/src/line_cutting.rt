@@ -5,7 +5,6 @@ ghost use lib.ListN.{length, take, drop};
 ghost use Rattle.std.specs.shelf.Lists.{All};
 ghost use Rattle.plan.specs.InputLines.{NoLineEnd, LineEnds, Lines, linesOf};
 ghost use Rattle.plan.specs.LinesAhead.{ahead, Next};
-
 use crate::input_lines::InputLines;
 
 impl<'a> InputLines<'a> {

@@ -8,7 +8,6 @@ ghost use Rattle.std.specs.Results.{Cases};
 ghost use Rattle.tokens.specs.Faults.{fault};
 ghost use Rattle.tokens.specs.declared.fault.FaultKind.the-variants.{MalformedLine};
 ghost use Rattle.plan.specs.PlanLines.{Digit, DigitsEnd, IsPlanLine, NoPlanLine};
-
 use tokens::Fault;
 use tokens::FaultKind;
 
@@ -44,7 +43,10 @@ impl<'a> PlanLine<'a> {
     {
         let count = leading_digits(line);
         if count == 0 || count > MAX_DIGITS || count == line.len() || line[count] != b'\t' {
-            return Err(Fault { kind: FaultKind::MalformedLine, place: 0 });
+            return Err(Fault {
+                kind: FaultKind::MalformedLine,
+                place: 0,
+            });
         }
         let digits = &line[0..count];
         let expression = &line[count + 1..line.len()];

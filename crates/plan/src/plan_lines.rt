@@ -3,7 +3,6 @@ ghost use mathlib.Core.Path.{_≡_};
 ghost use lib.ListN.{length};
 ghost use Rattle.plan.specs.Command.{beginsTail, planLines};
 ghost use Rattle.plan.specs.PlanLinesAhead.{planAhead, NextLine};
-
 use crate::input_lines::InputLines;
 use crate::line_cutting::InputLinesIterator;
 
@@ -40,7 +39,10 @@ impl<'a> PlanLines<'a> {
         ensures ahead { λ r. ⌜ planAhead r ≡ planLines (now (input .entry)) ⌝ }
         ensures count { λ r. ⌜ r .count ≡ 0 ⌝ }
     {
-        PlanLines { lines: InputLines::new(input), count: 0 }
+        PlanLines {
+            lines: InputLines::new(input),
+            count: 0,
+        }
     }
 }
 
@@ -63,6 +65,9 @@ pub impl<'a> Iterator for PlanLines<'a> as PlanLinesIterator {
             return None;
         }
         self.count += 1;
-        Some(NumberedLine { number: self.count, bytes })
+        Some(NumberedLine {
+            number: self.count,
+            bytes,
+        })
     }
 }

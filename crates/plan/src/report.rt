@@ -8,9 +8,7 @@ ghost use Rattle.std.specs.Of.Vec.{vec-items, vec-len, vec-cap};
 ghost use Rattle.std.specs.Results.{isOk};
 ghost use Rattle.std.specs.Written.{decimal};
 ghost use Rattle.plan.specs.Reports.{faultLine, tailLine};
-
 use std::alloc::AllocError;
-
 use tokens::Fault;
 
 // No fault line and no tail has more bytes.

@@ -2,7 +2,6 @@
 ghost use mathlib.Core.Path.{_≡_};
 ghost use Prim.Native.Nat.{_+_, _^_, _<_};
 ghost use Rattle.plan.specs.Command.{lineIn, pairsIn};
-
 use crate::outcome::Outcome;
 
 #[derive(Clone, Copy)]

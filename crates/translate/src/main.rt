@@ -1,9 +1,8 @@
 // translate: reads a plan from standard input and writes it in canonical spacing to standard output.
+use plan::translate;
 use std::io;
 use std::io::Read;
 use std::io::Write;
-
-use plan::translate;
 
 fn main(rt: LibcRuntime) -> io::Result<()> {
     let mut input = Vec::new(rt.alloc());

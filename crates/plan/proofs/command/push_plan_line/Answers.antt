@@ -27,7 +27,7 @@ put c =
     let room : vec-len (c .reserve .last .self) + length digits ≤ vec-cap (c .reserve .last .self) = omega (arith, c .in-Continue-reserve .ensures tt .cases) in
     let first = chosen _ _ _ _ (c .extend-from-slice .ensures .items) (c .extend-from-slice .ensures .succeeds room) in
     let bytes : vec-items (c .push-respaced .last .out) ≡ ((start ++ digits) ++ 9 ∷ []) ++ respaced text =
-        c .in-Continue-pairs .ensures tt .bytes ∙ ap (λ (l : List ℕ). l ++ respaced text) (c .push-reserved .ensures .items ∙ ap (λ (l : List ℕ). l ++ 9 ∷ []) (first ∙ ap (λ (l : List ℕ). l ++ digits) (c .reserve .ensures .items))) in
+    c .in-Continue-pairs .ensures tt .bytes ∙ ap (λ (l : List ℕ). l ++ respaced text) (c .push-reserved .ensures .items ∙ ap (λ (l : List ℕ). l ++ 9 ∷ []) (first ∙ ap (λ (l : List ℕ). l ++ digits) (c .reserve .ensures .items))) in
     record {
       bytes = bytes;
       len = omega (arith, ap length bytes, length-append ((start ++ digits) ++ 9 ∷ []) (respaced text), length-push (start ++ digits) 9, length-append start digits, c .push-respaced .last .out .ok .0, c .args .out .now .ok .0);

@@ -28,10 +28,12 @@ loop-line-holds c =
     let none = ap (λ (l : PlanLines). l .count) is ∙ c .new-line-items .ensures .count in
     let input = c .args .input .now in
     let out = vec-items (c .args .out .now) in
-    let cap = vec-cap (c .args .out .now) in
-    (tt, tt,
-    subst (λ n. Sofar input out cap (planAhead (c .into-iter-line-iterator .result)) n out 0 0) (sym none) (subst (λ (ls : List (List ℕ)). Sofar input out cap ls 0 out 0 0) (sym all) (sofar-none input out cap)),
-    omega arith)
+    let cap = vec-cap (c .args .out .now) in (
+      tt,
+      tt,
+      subst (λ n. Sofar input out cap (planAhead (c .into-iter-line-iterator .result)) n out 0 0) (sym none) (subst (λ (ls : List (List ℕ)). Sofar input out cap ls 0 out 0 0) (sym all) (sofar-none input out cap)),
+      omega arith,
+    )
 
 -- the line comes out with its number, one more than those before it
 came : (c : In-Continue-outcome) → ComesOut (c .loop-line .line-iterator .count + 1) (c .in-Some .line .bytes .now) (c .in-Continue-outcome .outcome) (c .in-Continue-outcome .ensures tt .answer .0)
@@ -51,11 +53,13 @@ loop-line-again c =
     let bytes = told .answer .0 in
     let step = c .in-Some .ensures tt .steps in
     let out = c .loop-line .out in
-    let short : length bytes ≤ length (c .in-Some .line .bytes .now) + 65 = omega (arith, told .len, ap length (told .answer .1), length-append (vec-items out) bytes, out .ok .0, c .translate-line .last .out .ok .0) in
-    (tt, tt,
-    sofar-more (c .args .input .now) (vec-items (c .args .out .now)) (vec-cap (c .args .out .now)) (c .in-Some .line .bytes .now) (planAhead (c .next .last .self)) (c .loop-line .line-iterator .count) (vec-items out) (c .loop-line .tally .lines) (c .loop-line .tally .pairs) (planAhead (c .loop-line .line-iterator)) (c .loop-line .inv .2) (step .0)
-    (c .in-Continue-outcome .outcome) bytes (came (need.at·loop-line-again c .In-Continue-outcome)) short _ _ _ _ (step .3) (told .answer .1) (c .count .ensures .lines) (c .count .ensures .pairs),
-    omega (arith, c .loop-line .inv .3, told .capacity))
+    let short : length bytes ≤ length (c .in-Some .line .bytes .now) + 65 = omega (arith, told .len, ap length (told .answer .1), length-append (vec-items out) bytes, out .ok .0, c .translate-line .last .out .ok .0) in (
+      tt,
+      tt,
+      sofar-more (c .args .input .now) (vec-items (c .args .out .now)) (vec-cap (c .args .out .now)) (c .in-Some .line .bytes .now) (planAhead (c .next .last .self)) (c .loop-line .line-iterator .count) (vec-items out) (c .loop-line .tally .lines) (c .loop-line .tally .pairs) (planAhead (c .loop-line .line-iterator)) (c .loop-line .inv .2) (step .0)
+          (c .in-Continue-outcome .outcome) bytes (came (need.at·loop-line-again c .In-Continue-outcome)) short _ _ _ _ (step .3) (told .answer .1) (c .count .ensures .lines) (c .count .ensures .pairs),
+      omega (arith, c .loop-line .inv .3, told .capacity),
+    )
 
 pub returns-in-Break-outcome : need.returns-in-Break-outcome
 returns-in-Break-outcome c =
@@ -63,7 +67,7 @@ returns-in-Break-outcome c =
     let told = c .in-Break-outcome .ensures tt in
     let inv = c .loop-line .inv in
     let fits : vec-len (c .args .out .now) + roomFor (planLines (c .args .input .now)) ≤ vec-cap (c .args .out .now) → vec-len (c .loop-line .out) + (length (c .in-Some .line .bytes .now) + 65) ≤ vec-cap (c .loop-line .out) =
-        λ room. subst (λ n. n + (length (c .in-Some .line .bytes .now) + 65) ≤ vec-cap (c .loop-line .out)) (sym (c .loop-line .out .ok .0)) (line-room _ _ _ _ _ _ _ _ _ _ (inv .2) (c .in-Some .ensures tt .steps .0) (vec-cap (c .loop-line .out)) (subst (λ n. n + roomFor (planLines (c .args .input .now)) ≤ vec-cap (c .args .out .now)) (c .args .out .now .ok .0) room) (inv .3)) in
+    λ room. subst (λ n. n + (length (c .in-Some .line .bytes .now) + 65) ≤ vec-cap (c .loop-line .out)) (sym (c .loop-line .out .ok .0)) (line-room _ _ _ _ _ _ _ _ _ _ (inv .2) (c .in-Some .ensures tt .steps .0) (vec-cap (c .loop-line .out)) (subst (λ n. n + roomFor (planLines (c .args .input .now)) ≤ vec-cap (c .args .out .now)) (c .args .out .now .ok .0) room) (inv .3)) in
     rw (p .1) (record {
       answer = (_, told .answer ∙ inv .2 .bytes, tt);
       capacity = omega (arith, inv .3, told .capacity);
@@ -81,7 +85,7 @@ returns c =
     let inv = c .loop-line .inv in
     let end = c .in-None .ensures tt .steps in
     let fits : vec-len (c .args .out .now) + roomFor (planLines (c .args .input .now)) ≤ vec-cap (c .args .out .now) → vec-len (c .loop-line .out) + 65 ≤ vec-cap (c .loop-line .out) =
-        λ room. subst (λ n. n + 65 ≤ vec-cap (c .loop-line .out)) (sym (c .loop-line .out .ok .0)) (tail-room _ _ _ _ _ _ _ _ (inv .2) end (vec-cap (c .loop-line .out)) (subst (λ n. n + roomFor (planLines (c .args .input .now)) ≤ vec-cap (c .args .out .now)) (c .args .out .now .ok .0) room) (inv .3)) in
+    λ room. subst (λ n. n + 65 ≤ vec-cap (c .loop-line .out)) (sym (c .loop-line .out .ok .0)) (tail-room _ _ _ _ _ _ _ _ (inv .2) end (vec-cap (c .loop-line .out)) (subst (λ n. n + roomFor (planLines (c .args .input .now)) ≤ vec-cap (c .args .out .now)) (c .args .out .now .ok .0) room) (inv .3)) in
     record {
       answer = after-tail _ _ _ _ _ _ (_, inv .2 .bytes) (sofar-end _ _ _ _ _ _ _ _ (inv .2) end) (c .push-tail .ensures .bytes);
       capacity = omega (arith, inv .3, c .push-tail .ensures .capacity);

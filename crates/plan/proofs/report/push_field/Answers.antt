@@ -16,7 +16,7 @@ pub returns : need.returns
 returns c =
     let out = vec-items (c .args .out .now) in
     let bytes : vec-items (c .push-decimal .last .out) ≡ out ++ (c .args .lead ∷ decimal (c .args .number)) =
-        c .push-decimal .ensures .bytes ∙ ap (λ (l : List ℕ). l ++ decimal (c .args .number)) (c .push-reserved .ensures .items) ∙ append-assoc out (c .args .lead ∷ []) (decimal (c .args .number)) in
+    c .push-decimal .ensures .bytes ∙ ap (λ (l : List ℕ). l ++ decimal (c .args .number)) (c .push-reserved .ensures .items) ∙ append-assoc out (c .args .lead ∷ []) (decimal (c .args .number)) in
     record {
       bytes = bytes;
       len = omega (arith, ap length bytes, length-append out (c .args .lead ∷ decimal (c .args .number)), twenty-digits (c .args .number) (c .fits .number .fits), c .push-decimal .last .out .ok .0, c .args .out .now .ok .0);

@@ -21,5 +21,5 @@ returns c =
     let some : c .args .self .now .at < length input = omega (arith, c .if-start-input .left, c .args .self .now .within) in
     let line = take (c .line-end-end .result - c .args .self .now .at) (drop (c .args .self .now .at) input) in
     let e = next-line input (c .args .self .now .at) (c .line-end-end .result) (end .forward) (end .within) (end .clear) (end .stops) some
-        ∙ ap (λ n. line ∷ linesOf (drop n input)) (sym (c .min-self .ensures)) in
+    ∙ ap (λ n. line ∷ linesOf (drop n input)) (sym (c .min-self .ensures)) in
     record { steps = e; goes = record { on = λ _. (tt, tt, omega (arith, ap length e)) } }

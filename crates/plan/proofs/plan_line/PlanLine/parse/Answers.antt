@@ -15,13 +15,16 @@ returns-then-count-eq0 c =
     let n = c .leading-digits-count .result in
     let d = c .leading-digits-count .ensures in
     record {
-      answer = (elim (c .then-count-eq0 .came) [
-        then-count-eq0·by·then-count-eq0 w ↦ none-without-digits line n (d .within) (d .digits) (d .stops) (w .if-count-eq0 .taken)
-        | then-count-eq0·by·else-count-eq0·then-count-gt-MAX-DIGITS w ↦ none-with-many line n (d .within) (d .digits) (d .stops) (w .if-count-gt-MAX-DIGITS .taken)
-        | then-count-eq0·by·else-count-eq0·else-count-gt-MAX-DIGITS·then-count-line w ↦ none-to-the-end line n (d .within) (d .digits) (d .stops) (w .if-count-line .taken)
-        | then-count-eq0·by·else-count-eq0·else-count-gt-MAX-DIGITS·else-count-line·then-line-count-ne9 w ↦
-          none-without-tab line n (d .within) (d .digits) (d .stops) (omega (arith, d .within, w .if-count-line .left)) (w .if-line-count-ne9 .taken)
-      ], refl);
+      answer = (
+        elim (c .then-count-eq0 .came) [
+          | then-count-eq0·by·then-count-eq0 w ↦ none-without-digits line n (d .within) (d .digits) (d .stops) (w .if-count-eq0 .taken)
+          | then-count-eq0·by·else-count-eq0·then-count-gt-MAX-DIGITS w ↦ none-with-many line n (d .within) (d .digits) (d .stops) (w .if-count-gt-MAX-DIGITS .taken)
+          | then-count-eq0·by·else-count-eq0·else-count-gt-MAX-DIGITS·then-count-line w ↦ none-to-the-end line n (d .within) (d .digits) (d .stops) (w .if-count-line .taken)
+          | then-count-eq0·by·else-count-eq0·else-count-gt-MAX-DIGITS·else-count-line·then-line-count-ne9 w ↦
+              none-without-tab line n (d .within) (d .digits) (d .stops) (omega (arith, d .within, w .if-count-line .left)) (w .if-line-count-ne9 .taken)
+        ],
+        refl,
+      );
       only = tt;
     }
 
