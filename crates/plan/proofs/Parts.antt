@@ -59,7 +59,7 @@ module _ (line : List ℕ) (r : ℕ) (within : r ≤ length line) (digits : All 
     pub none-without-tab : (getD line r 0 ≡ 9 → ⊥) → NoPlanLine line
     none-without-tab h ds es is = h (sym (head-same 9 (getD line r 0) es (drop (r + 1) line) (parts ds es is .1 ∙ rest-is)))
 
-    pub is-plan-line : (r ≡ 0 → ⊥) → r ≤ 8 → getD line r 0 ≡ 9 → IsPlanLine line (take r line) (drop (r + 1) line)
+    pub is-plan-line : 1 ≤ r → r ≤ 8 → getD line r 0 ≡ 9 → IsPlanLine line (take r line) (drop (r + 1) line)
     is-plan-line some few tab =
         record {
           split = sym (take-append-drop r line) ∙ ap (λ (l : List ℕ). take r line ++ l) (rest-is ∙ ap (λ n. n ∷ drop (r + 1) line) tab);

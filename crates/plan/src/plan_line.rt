@@ -1,9 +1,11 @@
 // A plan line: digits, a tab, and an expression.
 ghost use mathlib.Core.Path.{_≡_};
 ghost use mathlib.Core.List.{List};
-ghost use Prim.Native.Nat.{ℕ, _≤_};
+ghost use mathlib.Core.Logic.{_⊎_};
+ghost use Prim.Native.Nat.{ℕ, _<_, _≤_};
 ghost use lib.ListN.{length, take, drop};
 ghost use Rattle.std.specs.shelf.Lists.{All};
+ghost use Rattle.std.specs.Orderings.{When};
 ghost use Rattle.std.specs.Results.{Cases};
 ghost use Rattle.tokens.specs.Faults.{fault};
 ghost use Rattle.tokens.specs.declared.fault.FaultKind.the-variants.{MalformedLine};
@@ -34,6 +36,13 @@ fn leading_digits(line: &[u8]) -> usize
     count
 }
 
+// Whether a plan line may have so many digits: 1 to 8.
+fn is_digit_count(count: usize) -> bool
+    ensures { λ r. ⌜ When r ((1 ≤ count) × (count ≤ 8)) ((count ≡ 0) ⊎ (8 < count)) ⌝ }
+{
+    1 <= count && count <= MAX_DIGITS
+}
+
 impl<'a> PlanLine<'a> {
     // Takes a line apart at the tab after its 1 to 8 digits; what follows the tab is the expression.
     // Refuses a line that has no such digits, or no tab after them.
@@ -42,7 +51,7 @@ impl<'a> PlanLine<'a> {
         ensures only { λ r. ⌜ Cases r (λ p. (ds es : List ℕ) → IsPlanLine (now (line .entry)) ds es → (ds ≡ now (p .digits)) × (es ≡ now (p .expression))) (λ _. Unit {0}) ⌝ }
     {
         let count = leading_digits(line);
-        if count == 0 || count > MAX_DIGITS || count == line.len() || line[count] != b'\t' {
+        if !is_digit_count(count) || count == line.len() || line[count] != b'\t' {
             return Err(Fault {
                 kind: FaultKind::MalformedLine,
                 place: 0,
