@@ -10,6 +10,7 @@ use Rattle.std.specs.declared.option.Option.{Option}
 use Rattle.std.specs.declared.option.Option.the-variants.{Some, None}
 use Rattle.std.proofs.shelf.Equals.{sameBytes-decides}
 use Rattle.std.proofs.shelf.Tests.{false≢true, and-parts, and-from, cases-bool, cases-order}
+use Rattle.tokens.specs.InOrder.{Only}
 use Rattle.notation.specs.declared.form.Position.{Position}
 use Rattle.notation.specs.declared.form.Position.the-variants.{Before, After}
 use Rattle.notation.specs.Operators.{Op, positionOf}
@@ -85,3 +86,7 @@ module _ (t : Table) (p : Position) (s : List ℕ) where
   -- where nothing is found, nothing is listed
   pub none-listed : LawfulTable t → listed t p s ≡ None → (f : ℕ) → Listed t p s f → ⊥
   none-listed lawful e f is = let same = is-listed lawful f is in let z : _≡_ {A = ℕ} 0 1 = cc in omega arith
+
+  -- what is found is the only one
+  pub listed-only : LawfulTable t → (f : ℕ) → listed t p s ≡ Some f → Only (Listed t p s) f
+  listed-only lawful f e = let is = listed-is f e in record { is = is; only = λ g also. lawful .once p s g f also is }

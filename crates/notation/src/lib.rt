@@ -1,10 +1,12 @@
 // Functions, operators and notations: the fixed ladder and declared lists.
 mod form;
+mod lookup;
 mod notation;
 mod operator;
 
 pub use form::Form;
 pub use form::Position;
 pub use form::Side;
+pub use lookup::listed_operator;
 pub use notation::Notation;
 pub use operator::Operator;
