@@ -1,1 +1,3 @@
+pub mod Additions
 pub mod Lookups
+pub mod Rows

@@ -1,5 +1,8 @@
 // Functions, operators and notations: the fixed ladder and declared lists.
+mod entry;
 mod form;
+mod ladder;
+mod list;
 mod lookup;
 mod notation;
 mod operator;
@@ -7,6 +10,8 @@ mod operator;
 pub use form::Form;
 pub use form::Position;
 pub use form::Side;
+pub use ladder::Ladder;
+pub use ladder::LadderNotation;
 pub use lookup::listed_operator;
 pub use notation::Notation;
 pub use operator::Operator;
