@@ -31,7 +31,7 @@ one-y Xfy r l = x≢y l
 one-y Yfx r l = x≢y r
 
 -- the operator is free in the table: its function and its spelling are not listed, and it keeps the level rule
-pub record Free (t : Table) (f : ℕ) (o : Op) : Type 0 where
+pub record FreeIn (t : Table) (f : ℕ) (o : Op) : Type 0 where
   pub unlisted : (q : Op) → t f ≡ Some q → ⊥
   pub untaken : (g : ℕ) → Listed t (positionOf (o .form)) (o .spelling) g → ⊥
   pub unmixed : (g : ℕ) → Mixes t o g → ⊥
@@ -58,7 +58,7 @@ module _ (t : Table) (f : ℕ) (o : Op) where
       (λ was. inr (record { op = h .op; has = was; stands = h .stands; spelt = h .spelt }))
       (extended-cases g (h .op) (h .has))
 
-  module _ (lawful : LawfulTable t) (op : LawfulOp f o) (free : Free t f o) where
+  module _ (lawful : LawfulTable t) (op : LawfulOp f o) (free : FreeIn t f o) where
     -- an operator that was there before is not listed as the added one is
     not-as-added : (p : Position) (s : List ℕ) (g : ℕ) → (positionOf (o .form) ≡ p) × (o .spelling ≡ s) → Listed t p s g → ⊥
     not-as-added p s g (stands, spelt) h =
@@ -81,12 +81,12 @@ module _ (t : Table) (f : ℕ) (o : Op) where
               ⊎-elim
               (λ (_, also). one-y (r .form) right (ap (λ (k : Op). leftSide (k .form)) (sym is ∙ also) ∙ left))
               (λ was.
-              free .unmixed h (record { op = q; has = was; level = ap (λ (k : Op). k .priority) is ∙ level; sides = inl (ap (λ (k : Op). rightSide (k .form)) is ∙ right, left) }))
+              free .unmixed h (record { op = q; has = was; mixed = record { level = ap (λ (k : Op). k .priority) is ∙ level; sides = inl (ap (λ (k : Op). rightSide (k .form)) is ∙ right, left) } }))
               (extended-cases h q y))
               (λ was.
               ⊎-elim
               (λ (_, also).
-              free .unmixed g (record { op = r; has = was; level = ap (λ (k : Op). k .priority) also ∙ sym level; sides = inr (ap (λ (k : Op). leftSide (k .form)) also ∙ left, right) }))
+              free .unmixed g (record { op = r; has = was; mixed = record { level = ap (λ (k : Op). k .priority) also ∙ sym level; sides = inr (ap (λ (k : Op). leftSide (k .form)) also ∙ left, right) } }))
               (λ too. lawful .levels g h r q was too level right left)
               (extended-cases h q y))
               (extended-cases g r x);

@@ -1,3 +1,6 @@
 pub mod Additions
+pub mod Laws
+pub mod Lines
 pub mod Lookups
 pub mod Rows
+pub mod Rules

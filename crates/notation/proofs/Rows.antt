@@ -20,11 +20,11 @@ use Rattle.notation.specs.declared.form.Form.{Form}
 use Rattle.notation.specs.declared.form.Position.{Position}
 use Rattle.notation.specs.declared.form.Side.{Side}
 use Rattle.notation.specs.declared.form.Side.the-variants.{X, Y}
-use Rattle.notation.specs.Declarations.{Mixes, extended}
+use Rattle.notation.specs.Declarations.{Mixed, Mixes, extended}
 use Rattle.notation.specs.Operators.{Op, positionOf, operandsOf, leftSide, rightSide, NoDigitFirst, Spelling}
 use Rattle.notation.specs.Rows.{Row, tableOf, listedIn}
 use Rattle.notation.specs.Tables.{Table, operandsOfFunction, LawfulOp, Listed, LawfulTable, isListed, listed}
-use Rattle.notation.proofs.Additions.{Free, extended-same, extended-other, extended-cases, lawful-extended, nothing-lawful}
+use Rattle.notation.proofs.Additions.{FreeIn, extended-same, extended-other, extended-cases, lawful-extended, nothing-lawful}
 use Rattle.notation.proofs.Lookups.{test-listed, listed-test, listed-none, is-listed}
 
 -- The test: each row is an operator, and is free in the table of those after it.
@@ -118,15 +118,15 @@ found-row test (r ∷ rs) e f o has =
     let both = and-parts (test r) (all test rs) e in
     ⊎-elim (λ (same, is). let row : r ≡ at f o = λ i. record { function = same i; op = is i } in ap test (sym row) ∙ both .0) (found-row test rs (both .1) f o) (extended-cases (tableOf rs) (r .function) (r .op) f o has)
 
-mixed-test : (t : Table) (o : Op) (g : ℕ) (h : Mixes t o g) → isMixed o (h .op) ≡ true
-mixed-test t o g h =
-    and-from (eqb (o .priority) (h .op .priority)) _ (eq-eqb _ _ (h .level))
+mixed-test : (o q : Op) → Mixed o q → isMixed o q ≡ true
+mixed-test o q h =
+    and-from (eqb (o .priority) (q .priority)) _ (eq-eqb _ _ (h .level))
     (⊎-elim
-    (λ (r, l). or-left _ _ (and-from (isY (rightSide (o .form))) (isY (leftSide (h .op .form))) (y-test _ r) (y-test _ l)))
-    (λ (l, r). or-right _ _ (and-from (isY (leftSide (o .form))) (isY (rightSide (h .op .form))) (y-test _ l) (y-test _ r)))
+    (λ (r, l). or-left _ _ (and-from (isY (rightSide (o .form))) (isY (leftSide (q .form))) (y-test _ r) (y-test _ l)))
+    (λ (l, r). or-right _ _ (and-from (isY (leftSide (o .form))) (isY (rightSide (q .form))) (y-test _ l) (y-test _ r)))
     (h .sides))
 
-free-tested : (r : Row) (rs : List Row) → all (isApart r) rs ≡ true → Free (tableOf rs) (r .function) (r .op)
+free-tested : (r : Row) (rs : List Row) → all (isApart r) rs ≡ true → FreeIn (tableOf rs) (r .function) (r .op)
 free-tested r rs e =
     record {
       unlisted = λ q has. both-ways (eqb (r .function) (r .function)) (not-true _ (parts (r .function) q has .0)) (eq-eqb (r .function) (r .function) refl);
@@ -135,7 +135,7 @@ free-tested r rs e =
           let not-so = not-true (isListed (positionOf (r .op .form)) (r .op .spelling) (Some (h .op))) (spelt g (h .op) (h .has) .0) in
           both-ways (isListed (positionOf (r .op .form)) (r .op .spelling) (Some (h .op))) not-so
           (ap (isListed (positionOf (r .op .form)) (r .op .spelling)) (sym (h .has)) ∙ listed-test (tableOf rs) (positionOf (r .op .form)) (r .op .spelling) g h);
-      unmixed = λ g h. both-ways (isMixed (r .op) (h .op)) (not-true (isMixed (r .op) (h .op)) (spelt g (h .op) (h .has) .1)) (mixed-test (tableOf rs) (r .op) g h);
+      unmixed = λ g h. both-ways (isMixed (r .op) (h .op)) (not-true (isMixed (r .op) (h .op)) (spelt g (h .op) (h .has) .1)) (mixed-test (r .op) (h .op) (h .mixed));
     }
   where
     parts : (g : ℕ) (q : Op) → tableOf rs g ≡ Some q → (not (eqb (r .function) g) ≡ true) × ((not (isListed (positionOf (r .op .form)) (r .op .spelling) (Some q)) && not (isMixed (r .op) q)) ≡ true)

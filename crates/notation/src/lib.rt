@@ -1,4 +1,5 @@
 // Functions, operators and notations: the fixed ladder and declared lists.
+mod declaration;
 mod entry;
 mod form;
 mod ladder;
