@@ -4,3 +4,4 @@ pub mod Lines
 pub mod Lookups
 pub mod Rows
 pub mod Rules
+pub mod Spellings

@@ -5,6 +5,8 @@ use mathlib.Core.Bool.{Bool, true, false, cond, _&&_}
 use mathlib.Core.List.{List}
 use Prim.Native.Nat.{ℕ, zero, suc, _+_, _<_, _≤_}
 use native.Mathlib.Omega.{arith}
+use borrow.Author.Needs.{needs}
+use Rattle.std.specs.Orderings.{Decides}
 use Rattle.std.specs.shelf.Text.{sameBytes}
 use Rattle.std.specs.declared.option.Option.{Option}
 use Rattle.std.specs.declared.option.Option.the-variants.{Some, None}
@@ -22,9 +24,15 @@ position-same Before After e = absurd (false≢true e)
 position-same After Before e = absurd (false≢true e)
 position-same After After e = refl
 
-same-position : (p : Position) → samePosition p p ≡ true
+pub same-position : (p : Position) → samePosition p p ≡ true
 same-position Before = refl
 same-position After = refl
+
+-- an operator that stands in the position is listed there if its spelling is the one
+pub tested : (p : Position) (s : List ℕ) (o : Op) (same : Bool) → positionOf (o .form) ≡ p → Decides same (o .spelling ≡ s) → same ≡ isListed p s (Some o)
+tested p s o same stands decides =
+    let is : same ≡ sameBytes (o .spelling) s = search (needs, sameBytes-decides) in
+    is ∙ ap (λ (b : Bool). b && sameBytes (o .spelling) s) (sym (ap (λ (q : Position). samePosition q p) stands ∙ same-position p))
 
 module _ (t : Table) (p : Position) (s : List ℕ) where
   by-test : (f : ℕ) (o : Option Op) → t f ≡ o → isListed p s o ≡ true → Listed t p s f
@@ -90,3 +98,14 @@ module _ (t : Table) (p : Position) (s : List ℕ) where
   -- what is found is the only one
   pub listed-only : LawfulTable t → (f : ℕ) → listed t p s ≡ Some f → Only (Listed t p s) f
   listed-only lawful f e = let is = listed-is f e in record { is = is; only = λ g also. lawful .once p s g f also is }
+
+-- a function from 64 on has no operator
+pub none-past : (t : Table) → LawfulTable t → (f : ℕ) → 64 ≤ f → t f ≡ None
+none-past t lawful f past = none-at (t f) refl
+  where
+    none-at : (o : Option Op) → t f ≡ o → o ≡ None
+    none-at None has = refl
+    none-at (Some o) has = absurd (omega (arith, lawful .each f o has .function))
+
+pub inside : (t : Table) → LawfulTable t → (f : ℕ) (o : Op) → t f ≡ Some o → f < 64
+inside t lawful f o has = lawful .each f o has .function

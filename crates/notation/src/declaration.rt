@@ -15,10 +15,16 @@ use tokens::FaultKind;
 // The most digits of a number.
 const MAX_DIGITS: usize = 4;
 
-// The place of a fault: a field of the line, or the whole line.
+// The place of a fault is a field, counted from 1, or the whole line.
 const WHOLE_LINE: usize = 0;
 
+pub(crate) const FUNCTION_FIELD: usize = 1;
+
+pub(crate) const PRIORITY_FIELD: usize = 2;
+
 const TYPE_FIELD: usize = 3;
+
+pub(crate) const SPELLING_FIELD: usize = 4;
 
 // The four fields of a line.
 #[derive(Clone, Copy)]

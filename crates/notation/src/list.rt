@@ -2,9 +2,7 @@
 ghost use Rattle.notation.specs.Slots.{tableIn};
 ghost use Rattle.notation.specs.Tables.{LawfulTable};
 use crate::entry::Entry;
-
-// How many functions there are: a function is a number below this.
-pub const FUNCTIONS: usize = 64;
+use crate::function::FUNCTIONS;
 
 // A list that operators can be declared into. It is no notation until it is sealed.
 #[derive(Drop)]
