@@ -3,18 +3,23 @@ use mathlib.Core.Path.{_≡_, refl, sym, ap, subst, _∙_}
 use mathlib.Core.Logic.{_⊎_, inl, inr, ⊎-elim}
 use mathlib.Core.Bool.{Bool, true, false, cond}
 use mathlib.Core.List.{List}
-use Prim.Native.Nat.{ℕ}
+use Prim.Native.Nat.{ℕ, zero, suc, _<_}
 use native.Mathlib.Omega.{arith}
 use lib.Dec.{eqb}
+use lib.ListN.{length, getD, set, replicate}
 use Rattle.std.specs.declared.option.Option.{Option}
 use Rattle.std.specs.declared.option.Option.the-variants.{Some, None}
-use Rattle.std.proofs.shelf.Tests.{cases-bool, eqb-true, eqb-false, eq-eqb, ne-eqb, cond-true, cond-false}
+use Rattle.std.specs.Options.{isSome, mapped}
+use Rattle.std.proofs.shelf.Lists.{getD-default, getD-set-same, getD-set-other}
+use Rattle.std.proofs.shelf.Tests.{cases-bool, cases-eq, eqb-true, eqb-false, eq-eqb, ne-eqb, cond-true, cond-false}
+use Rattle.notation.specs.declared.entry.Entry.{Entry}
 use Rattle.notation.specs.declared.form.Form.{Form}
 use Rattle.notation.specs.declared.form.Form.the-variants.{Fx, Fy, Xf, Yf, Xfx, Xfy, Yfx}
 use Rattle.notation.specs.declared.form.Position.{Position}
 use Rattle.notation.specs.declared.form.Side.the-variants.{X, Y}
 use Rattle.notation.specs.Declarations.{Mixes, extended}
 use Rattle.notation.specs.Operators.{Op, positionOf, leftSide, rightSide}
+use Rattle.notation.specs.Slots.{opIn, tableIn}
 use Rattle.notation.specs.Tables.{Table, LawfulOp, Listed, LawfulTable}
 
 -- no type has y on both sides
@@ -103,3 +108,31 @@ nothing-lawful t none =
   where
     not-there : (f : ℕ) (o : Op) → t f ≡ Some o → ⊥
     not-there f o has = let clash = sym (none f) ∙ has in let z : _≡_ {A = ℕ} 0 1 = cc in omega arith
+
+-- slots that are all empty, and a slot that is filled
+pub no-entries : (n f : ℕ) → tableIn (replicate n None) f ≡ None
+no-entries zero f = refl
+no-entries (suc n) zero = refl
+no-entries (suc n) (suc f) = no-entries n f
+
+pub set-entry : (slots : List (Option Entry)) (f : ℕ) (e : Entry) → f < length slots → tableIn (set slots f (Some e)) ≡ extended (tableIn slots) f (opIn e)
+set-entry slots f e within = λ i g. at g i
+  where
+    at : (g : ℕ) → tableIn (set slots f (Some e)) g ≡ extended (tableIn slots) f (opIn e) g
+    at g =
+        ⊎-elim
+        (λ same.
+        ap (λ h. tableIn (set slots f (Some e)) h) (sym same)
+        ∙ ap (mapped opIn) (getD-set-same slots f (Some e) None within)
+        ∙ sym (extended-same (tableIn slots) f (opIn e))
+        ∙ ap (extended (tableIn slots) f (opIn e)) same)
+        (λ other. ap (mapped opIn) (getD-set-other slots f g (Some e) None (λ same. other (sym same))) ∙ sym (extended-other (tableIn slots) f (opIn e) g other))
+        (cases-eq f g)
+
+-- whether a slot is filled
+pub slot-test : (slots : List (Option Entry)) (i f : ℕ) (d : Option Entry) → i < length slots → i ≡ f → isSome (tableIn slots f) ≡ isSome (getD slots i d)
+slot-test slots i f d within same = ap (λ n. isSome (tableIn slots n)) (sym same) ∙ some-mapped (getD slots i None) ∙ ap isSome (getD-default slots i None d within)
+  where
+    some-mapped : (x : Option Entry) → isSome (mapped opIn x) ≡ isSome x
+    some-mapped None = refl
+    some-mapped (Some e) = refl

@@ -13,7 +13,7 @@ use Rattle.tokens.specs.Faults.{fault}
 use Rattle.tokens.specs.InOrder.{If, IfSome, Only, Refused, Accepted}
 use Rattle.notation.specs.declared.form.Form.{Form}
 use Rattle.notation.specs.declared.form.Side.the-variants.{Y}
-use Rattle.notation.specs.Lines.{Said, Says, wordOf}
+use Rattle.notation.specs.Lines.{Said, Says, wordOf, saidOp}
 use Rattle.notation.specs.Operators.{Op, positionOf, operandsOf, leftSide, rightSide, Spelling}
 use Rattle.notation.specs.Tables.{Table, operandsOfFunction, Listed}
 
@@ -44,26 +44,30 @@ module _ {T : Type 0} where
   abbrev pub UnlessSome : {X : Type 0} → (X → Type 0) → Fault → (X → Result T Fault → Type 0) → Result T Fault → Type 0
   UnlessSome P f otherwise = IfSome P otherwise (Refused f)
 
-  -- the rules of a line by itself, and then those of its function and operator
+  -- the rules of a line, and then those of its function and operator
   abbrev pub LineRules : List ℕ → (ℕ → Op → Result T Fault → Type 0) → Result T Fault → Type 0
   LineRules line otherwise =
       UnlessSome (Says line) (fault MalformedDeclaration 0)
-      (λ d. UnlessSome (λ m. d .word ≡ wordOf m) (fault UnknownType 3) (λ m. otherwise (d .function) (record { priority = d .priority; form = m; spelling = d .spelling })))
+      (λ d. UnlessSome (λ m. d .word ≡ wordOf m) (fault UnknownType 3) (λ m. otherwise (d .function) (saidOp d m)))
 
-  -- the rules of a function and an operator by themselves, and then others
-  abbrev pub OperatorRules : ℕ → Op → (Result T Fault → Type 0) → Result T Fault → Type 0
-  OperatorRules f o otherwise =
-      Unless (Fits f (o .form)) (fault WrongFunction 1)
-      (Unless (InRange (o .priority)) (fault PriorityOutOfRange 2) (Unless (Spelling (o .spelling)) (fault MalformedSpelling 4) otherwise))
+abbrev pub Answer : Type 0
+Answer = Result (Unit {0}) Fault
 
-  -- those of their place in a table, and then others
-  abbrev pub TableRules : Table → ℕ → Op → (Result T Fault → Type 0) → Result T Fault → Type 0
-  TableRules t f o otherwise =
-      IfSome (λ q. t f ≡ Some q) (λ _. Refused (fault FunctionListed 1))
-      (IfSome (Listed t (positionOf (o .form)) (o .spelling)) (λ _. Refused (fault SpellingTaken 4)) (IfSome (Mixes t o) (λ _. Refused (fault MixedLevel 2)) otherwise))
+-- the rules of a function and an operator by themselves, and then others
+abbrev pub OperatorRules : ℕ → Op → (Answer → Type 0) → Answer → Type 0
+OperatorRules f o otherwise =
+    Unless (Fits f (o .form)) (fault WrongFunction 1)
+    (Unless (InRange (o .priority)) (fault PriorityOutOfRange 2) (Unless (Spelling (o .spelling)) (fault MalformedSpelling 4) otherwise))
 
-abbrev pub Declares : Table → List ℕ → Result (Unit {0}) Fault → Type 0
-Declares t line = LineRules line (λ f o. OperatorRules f o (TableRules t f o (Accepted tt)))
+-- the rules of their place in a table
+abbrev pub TableRules : Table → ℕ → Op → Answer → Type 0
+TableRules t f o =
+    IfSome (λ q. t f ≡ Some q) (λ _. Refused (fault FunctionListed 1))
+    (IfSome (Listed t (positionOf (o .form)) (o .spelling)) (λ _. Refused (fault SpellingTaken 4))
+    (IfSome (Mixes t o) (λ _. Refused (fault MixedLevel 2)) (Accepted tt)))
+
+abbrev pub Declares : Table → List ℕ → Answer → Type 0
+Declares t line = LineRules line (λ f o. OperatorRules f o (TableRules t f o))
 
 -- The table with one operator more.
 abbrev pub extended : Table → ℕ → Op → Table
@@ -75,4 +79,4 @@ pub record Added (before : Table) (line : List ℕ) (after : Table) : Type 0 whe
   pub form : Form
   pub says : Only (Says line) said
   pub word : said .word ≡ wordOf form
-  pub table : after ≡ extended before (said .function) (record { priority = said .priority; form = form; spelling = said .spelling })
+  pub table : after ≡ extended before (said .function) (saidOp said form)

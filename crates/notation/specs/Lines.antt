@@ -9,6 +9,7 @@ use Rattle.std.specs.shelf.Lists.{All}
 use Rattle.tokens.specs.Bytes.{isDigit}
 use Rattle.notation.specs.declared.form.Form.{Form}
 use Rattle.notation.specs.declared.form.Form.the-variants.{Fx, Fy, Xf, Yf, Xfx, Xfy, Yfx}
+use Rattle.notation.specs.Operators.{Op}
 
 -- a field has some bytes, and no space, byte 32, among them
 pub record Field (bytes : List ℕ) : Type 0 where
@@ -65,3 +66,7 @@ wordOf Yf = codes "yf"
 wordOf Xfx = codes "xfx"
 wordOf Xfy = codes "xfy"
 wordOf Yfx = codes "yfx"
+
+-- the operator that a line declares, its word being that of the type
+abbrev pub saidOp : Said → Form → Op
+saidOp d m = record { priority = d .priority; form = m; spelling = d .spelling }

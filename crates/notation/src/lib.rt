@@ -1,6 +1,7 @@
 // Functions, operators and notations: the fixed ladder and declared lists.
 mod checking;
 mod declaration;
+mod declaring;
 mod entry;
 mod form;
 mod function;
@@ -10,6 +11,7 @@ mod listing;
 mod lookup;
 mod notation;
 mod operator;
+mod sealed;
 mod slots;
 
 pub use checking::MAX_PRIORITY;
@@ -23,6 +25,9 @@ pub use function::FUNCTIONS;
 pub use function::operands_of;
 pub use ladder::Ladder;
 pub use ladder::LadderNotation;
+pub use list::OpenList;
+pub use list::SealedList;
 pub use lookup::listed_operator;
 pub use notation::Notation;
 pub use operator::Operator;
+pub use sealed::SealedNotation;
