@@ -4,4 +4,5 @@ pub mod Lines
 pub mod Lookups
 pub mod Rows
 pub mod Rules
+pub mod Seals
 pub mod Spellings

@@ -1,4 +1,4 @@
-// Declaring operators into an open list, and sealing it.
+// Declaring operators into an open list.
 ghost use mathlib.Core.Path.{_≡_};
 ghost use Prim.Native.Nat.{ℕ, _<_};
 ghost use Rattle.std.specs.declared.option.Option.the-variants.{None};
@@ -6,7 +6,7 @@ ghost use Rattle.std.specs.declared.result.Result.the-variants.{Ok};
 ghost use Rattle.std.specs.Vec.{made, refused};
 ghost use Rattle.tokens.specs.InOrder.{Only, Accepted};
 ghost use Rattle.notation.specs.Declarations.{OperatorRules, TableRules, Declares, Added, extended};
-ghost use Rattle.notation.specs.Views.{declaredOp, openTable, sealedTable};
+ghost use Rattle.notation.specs.Views.{declaredOp, openTable};
 use crate::checking::check_operator;
 use crate::declaration::Declaration;
 use crate::declaration::FUNCTION_FIELD;
@@ -16,7 +16,6 @@ use crate::declaration::read_declaration;
 use crate::entry::Entry;
 use crate::function::FUNCTIONS;
 use crate::list::OpenList;
-use crate::list::SealedList;
 use tokens::Fault;
 use tokens::FaultKind;
 
@@ -43,7 +42,8 @@ impl OpenList {
             });
         }
         let position = declaration.form.position();
-        if self.listed(position, declaration.spelling).is_some() {
+        if self.listed_from(0, position, declaration.spelling)
+            .is_some() {
             return Err(Fault {
                 kind: FaultKind::SpellingTaken,
                 place: SPELLING_FIELD,
@@ -79,12 +79,5 @@ impl OpenList {
         self.check_free(declaration)?;
         self.put(declaration);
         Ok(())
-    }
-
-    // The list as a notation, to which nothing can be added.
-    pub fn seal(self) -> SealedList
-        ensures { λ r. ⌜ sealedTable r ≡ openTable self ⌝ }
-    {
-        SealedList { list: self }
     }
 }

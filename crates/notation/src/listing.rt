@@ -1,10 +1,10 @@
 // Looking operators up in a declared list.
 ghost use mathlib.Core.Path.{_≡_};
-ghost use Prim.Native.Nat.{ℕ};
+ghost use Prim.Native.Nat.{ℕ, _<_};
 ghost use Rattle.std.specs.Orderings.{Decides};
 ghost use Rattle.notation.specs.Declarations.{Mixes};
 ghost use Rattle.notation.specs.Operators.{told};
-ghost use Rattle.notation.specs.Tables.{listed};
+ghost use Rattle.notation.specs.Tables.{Listed, listed};
 ghost use Rattle.notation.specs.Views.{declaredOp, openTable};
 use crate::declaration::Declaration;
 use crate::form::Position;
@@ -29,12 +29,19 @@ impl OpenList {
         }
     }
 
-    // The function that is listed under the spelling in the position, if there is one.
-    pub(crate) fn listed(&self, position: Position, spelling: &[u8]) -> Option<u8>
+    // The function that is listed under the spelling in the position, if there is one, where none
+    // comes before `start`.
+    pub(crate) fn listed_from(
+        &self,
+        start: usize,
+        position: Position,
+        spelling: &[u8],
+    ) -> Option<u8>
+        requires { ⌜ ((g : ℕ) → g < start → Listed (openTable (now self)) position (now spelling) g → ⊥) ⌝ }
         ensures { λ r. ⌜ r ≡ listed (openTable (now (self .entry))) position (now (spelling .entry)) ⌝ }
     {
-        for (function, slot) in self.slots.iter().enumerate() {
-            if slot_lists(slot, position, spelling) {
+        for function in start..FUNCTIONS {
+            if slot_lists(&self.slots[function], position, spelling) {
                 return Some(function as u8);
             }
         }

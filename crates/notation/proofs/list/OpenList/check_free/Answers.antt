@@ -30,7 +30,7 @@ returns-then-is-some-2 c =
     let within : c .from .result < length (list .slots) = search needs in
     let slot = slot-test (list .slots) (c .from .result) f (c .index-self-from .result) within (c .from .ensures) in
     let place = ap (λ (p : Position). isSome (listed (openTable list) p (o .spelling))) (sym (c .position-position .ensures)) in
-    table-taken (openTable list) f o (slot ∙ sym (c .if-is-some .ensures tt)) (place ∙ sym (ap isSome (c .listed .ensures)) ∙ sym (c .if-is-some-2 .ensures tt))
+    table-taken (openTable list) f o (slot ∙ sym (c .if-is-some .ensures tt)) (place ∙ sym (ap isSome (c .listed-from .ensures)) ∙ sym (c .if-is-some-2 .ensures tt))
 
 pub returns-then-mixes : need.returns-then-mixes
 returns-then-mixes c =
@@ -40,7 +40,7 @@ returns-then-mixes c =
     let within : c .from .result < length (list .slots) = search needs in
     let slot = slot-test (list .slots) (c .from .result) f (c .index-self-from .result) within (c .from .ensures) in
     let place = ap (λ (p : Position). isSome (listed (openTable list) p (o .spelling))) (sym (c .position-position .ensures)) in
-    let untaken = place ∙ sym (ap isSome (c .listed .ensures)) ∙ sym (c .if-is-some-2 .ensures tt) in
+    let untaken = place ∙ sym (ap isSome (c .listed-from .ensures)) ∙ sym (c .if-is-some-2 .ensures tt) in
     let it = c .if-mixes .ensures tt .0 refl in
     table-mixed (openTable list) f o (slot ∙ sym (c .if-is-some .ensures tt)) (lawful-in (openTable list) (list .lawful)) untaken (it .0) (it .1)
 
@@ -52,5 +52,5 @@ returns c =
     let within : c .from .result < length (list .slots) = search needs in
     let slot = slot-test (list .slots) (c .from .result) f (c .index-self-from .result) within (c .from .ensures) in
     let place = ap (λ (p : Position). isSome (listed (openTable list) p (o .spelling))) (sym (c .position-position .ensures)) in
-    let untaken = place ∙ sym (ap isSome (c .listed .ensures)) ∙ sym (c .if-is-some-2 .ensures tt) in
+    let untaken = place ∙ sym (ap isSome (c .listed-from .ensures)) ∙ sym (c .if-is-some-2 .ensures tt) in
     table-accepts (openTable list) f o (slot ∙ sym (c .if-is-some .ensures tt)) (lawful-in (openTable list) (list .lawful)) untaken (λ g it. false≢true (c .if-mixes .ensures tt .1 (g, it)))

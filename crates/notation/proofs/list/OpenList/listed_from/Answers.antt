@@ -16,7 +16,7 @@ use Rattle.notation.specs.Tables.{isListed}
 use Rattle.notation.specs.Views.{openTable}
 use Rattle.notation.proofs.Laws.{lawful-in}
 use Rattle.notation.proofs.Lookups.{test-listed, listed-test, is-listed, listed-none, inside}
-use Rattle.notation.proofs.list.OpenList.listed.Needs as need
+use Rattle.notation.proofs.list.OpenList.listed_from.Needs as need
 
 pub returns-then-slot-lists : need.returns-then-slot-lists
 returns-then-slot-lists c =
@@ -26,7 +26,7 @@ returns-then-slot-lists c =
     let s = c .args .spelling .now in
     let i = c .loop-function .function in
     let within : i < length (list .slots) = search needs in
-    let slot = getD-default (list .slots) i None (c .slot-item .result) within in
+    let slot = getD-default (list .slots) i None (c .index-self-function .result) within in
     let is = test-listed t p s i (ap (λ (o : Option Entry). isListed p s (mapped opIn o)) slot ∙ sym (c .if-slot-lists .ensures tt)) in
     sym (is-listed t p s (lawful-in t (list .lawful)) i is)
 
@@ -38,7 +38,7 @@ loop-function-again c =
     let s = c .args .spelling .now in
     let i = c .loop-function .function in
     let within : i < length (list .slots) = search needs in
-    let slot = getD-default (list .slots) i None (c .slot-item .result) within in
+    let slot = getD-default (list .slots) i None (c .index-self-function .result) within in
     below-more _ _ (c .loop-function .inv)
     (λ is. both-ways (isListed p s (t i)) (ap (λ (o : Option Entry). isListed p s (mapped opIn o)) slot ∙ sym (c .if-slot-lists .ensures tt)) (listed-test t p s i is))
 
