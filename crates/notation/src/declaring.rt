@@ -6,6 +6,8 @@ ghost use Rattle.std.specs.declared.result.Result.the-variants.{Ok};
 ghost use Rattle.std.specs.Vec.{made, refused};
 ghost use Rattle.tokens.specs.InOrder.{Only, Accepted};
 ghost use Rattle.notation.specs.Declarations.{OperatorRules, TableRules, Declares, Added, extended};
+ghost use Rattle.notation.specs.Slots.{tableIn};
+ghost use Rattle.notation.specs.Tables.{LawfulTable};
 ghost use Rattle.notation.specs.Views.{declaredOp, openTable};
 use crate::checking::check_operator;
 use crate::declaration::Declaration;
@@ -19,13 +21,21 @@ use crate::list::OpenList;
 use tokens::Fault;
 use tokens::FaultKind;
 
+// Slots without operators.
+fn empty_slots() -> [Option<Entry>; FUNCTIONS]
+    ensures empty { λ r. ⌜ ((f : ℕ) → tableIn r f ≡ None) ⌝ }
+    ensures lawful { λ r. ⌜ ∥ LawfulTable (tableIn r) ∥₁ ⌝ }
+{
+    [None; FUNCTIONS]
+}
+
 impl OpenList {
     // A list without operators.
     pub fn new() -> OpenList
         ensures { λ r. ⌜ ((f : ℕ) → openTable r f ≡ None) ⌝ }
     {
         OpenList {
-            slots: [None; FUNCTIONS],
+            slots: empty_slots(),
         }
     }
 

@@ -72,7 +72,7 @@ impl Form {
 
 impl Side {
     // The largest weight that the side of an operator of this priority admits.
-    pub fn limit(self, priority: u16) -> u16
+    pub(crate) fn limit(self, priority: u16) -> u16
         ensures { λ r. ⌜ r ≡ limit self priority ⌝ }
     {
         match self {
