@@ -1,5 +1,7 @@
 pub mod Outputs
 pub mod Parts
-pub mod Plans
+pub mod Counts
 pub mod Reporting
+pub mod Sectioning
 pub mod Splits
+pub mod Whole

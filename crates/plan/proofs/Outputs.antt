@@ -1,7 +1,7 @@
 -- A line comes out in one way, and so does an input; what the loop over the lines keeps.
 use mathlib.Core.Path.{_≡_, refl, sym, ap, subst, _∙_}
 use mathlib.Core.Logic.{_⊎_, inl, inr, ⊎-elim}
-use mathlib.Core.Bool.{true, false}
+use mathlib.Core.Bool.{Bool, true, false, cond}
 use mathlib.Core.List.{List, [], _∷_, _++_, append-assoc, append-nil}
 use Prim.Native.Nat.{ℕ, _+_, _*_, _≤_, _<_}
 use native.Mathlib.Omega.{arith}
@@ -18,7 +18,7 @@ use Rattle.tokens.proofs.Checks.{limits-one, within-accepted}
 use Rattle.tokens.proofs.Spaces.{pairs-within}
 use Rattle.plan.specs.declared.outcome.Outcome.{Outcome}
 use Rattle.plan.specs.declared.outcome.Outcome.the-variants.{Added, Refused}
-use Rattle.plan.specs.Command.{LineFault, ComesOut, planLines, Entry, bytesOf, ComesOutAs, EachComesOut, lineIn, pairsIn, linesAdded, pairsAdded, Output, roomFor}
+use Rattle.plan.specs.Plans.{beginsTail, upToTail, LineFault, ComesOut, Entry, bytesOf, ComesOutAs, EachComesOut, lineIn, pairsIn, linesAdded, pairsAdded, PlanOutput, roomFor}
 use Rattle.plan.specs.PlanLines.{IsPlanLine, NoPlanLine}
 use Rattle.plan.specs.Reports.{lineEnd, faultLine, tailLine}
 use Rattle.plan.proofs.Parts.{plan-line-one}
@@ -75,14 +75,10 @@ each-one n (l ∷ ls) (d ∷ ds) (e ∷ es) p q =
     let rest = each-one (n + 1) ls ds es (p .1) (q .1) in
     λ i. first i ∷ rest i
 
-pub output-only : (input out : List ℕ) → Output input out → Only (Output input) out
-output-only input out h =
-    record {
-      is = h;
-      only = λ other k.
-          let same = each-one 1 (planLines input) (k .entries) (h .entries) (k .each) (h .each) in
-          k .whole ∙ ap (λ (es : List Entry). joined bytesOf es ++ tailLine (linesAdded es) (pairsAdded es)) same ∙ sym (h .whole);
-    }
+pub plan-output-one : (count : ℕ) (lines : List (List ℕ)) (out other : List ℕ) → PlanOutput count lines out → PlanOutput count lines other → out ≡ other
+plan-output-one count lines out other h k =
+    let same = each-one (count + 1) lines (h .entries) (k .entries) (h .each) (k .each) in
+    h .whole ∙ ap (λ (es : List Entry). joined bytesOf es ++ tailLine (linesAdded es) (pairsAdded es)) same ∙ sym (k .whole)
 
 -- One line more.
 each-more : (n : ℕ) (ls : List (List ℕ)) (es : List Entry) (l : List ℕ) (e : Entry) → EachComesOut n ls es → ComesOutAs (n + length ls) l e → EachComesOut n (ls ++ l ∷ []) (es ++ e ∷ [])
@@ -109,57 +105,72 @@ pub few-pairs : (number : ℕ) (line : List ℕ) (o : Outcome) (bytes : List ℕ
 few-pairs number line (Added n) bytes (ds, es, is, within, pairs, _) = omega (arith, pairs-within es, within .tokens)
 few-pairs number line (Refused f) bytes h = omega arith
 
+pub room-some : (ls : List (List ℕ)) → 65 ≤ roomFor ls
+room-some [] = omega arith
+room-some (l ∷ ls) = omega (arith, room-some ls)
+
 -- some lines of the plan are done, the others ahead
-pub record Sofar (input start : List ℕ) (cap : ℕ) (ahead : List (List ℕ)) (count : ℕ) (out : List ℕ) (lines pairs : ℕ) : Type 0 where
+pub record Sofar (all : List (List ℕ)) (before : ℕ) (start : List ℕ) (cap : ℕ) (ahead : List (List ℕ)) (count : ℕ) (out : List ℕ) (lines pairs : ℕ) : Type 0 where
   pub done : List (List ℕ)
   pub entries : List Entry
-  pub split : planLines input ≡ done ++ ahead
-  pub counted : length done ≡ count
-  pub each : EachComesOut 1 done entries
+  pub split : all ≡ done ++ ahead
+  pub counted : before + length done ≡ count
+  pub each : EachComesOut (before + 1) done entries
   pub bytes : out ≡ start ++ joined bytesOf entries
   pub lines-are : lines ≡ linesAdded entries
   pub pairs-are : pairs ≡ pairsAdded entries
   pub few-lines : lines ≤ count
   pub few-pairs : pairs ≤ 1024 * count
-  pub room : length start + roomFor (planLines input) ≤ cap → length out + roomFor ahead ≤ cap
+  pub room : length start + roomFor all ≤ cap → length out + roomFor ahead ≤ cap
 
-pub sofar-none : (input start : List ℕ) (cap : ℕ) → Sofar input start cap (planLines input) 0 start 0 0
-sofar-none input start cap =
-    record { done = []; entries = []; split = refl; counted = refl; each = tt; bytes = sym (append-nil start); lines-are = refl; pairs-are = refl; few-lines = omega arith; few-pairs = omega arith; room = λ h. h }
+module _ (all : List (List ℕ)) (before : ℕ) (start : List ℕ) (cap : ℕ) where
+  pub sofar-none : Sofar all before start cap all before start 0 0
+  sofar-none =
+      let none : before + 0 ≡ before = omega arith in
+      record { done = []; entries = []; split = refl; counted = none; each = tt; bytes = sym (append-nil start); lines-are = refl; pairs-are = refl; few-lines = omega arith; few-pairs = omega arith; room = λ h. h }
 
-module _ (input start : List ℕ) (cap : ℕ) (l : List ℕ) (rest : List (List ℕ)) (count : ℕ) (out : List ℕ) (lines pairs : ℕ) (ahead : List (List ℕ)) (h : Sofar input start cap ahead count out lines pairs) (next : ahead ≡ l ∷ rest) where
-  pub sofar-more : (o : Outcome) (bytes : List ℕ) → ComesOut (count + 1) l o bytes → length bytes ≤ length l + 65
-      → (count′ : ℕ) (out′ : List ℕ) (lines′ pairs′ : ℕ) → count′ ≡ count + 1 → out′ ≡ out ++ bytes → lines′ ≡ lines + lineIn o → pairs′ ≡ pairs + pairsIn o
-      → Sofar input start cap rest count′ out′ lines′ pairs′
-  sofar-more o bytes comes short count′ out′ lines′ pairs′ count-is out-is lines-is pairs-is =
-      let e : Entry = record { outcome = o; bytes = bytes } in
-      let number : count + 1 ≡ 1 + length (h .done) = omega (arith, h .counted) in
-      record {
-        done = h .done ++ l ∷ [];
-        entries = h .entries ++ e ∷ [];
-        split = h .split ∙ ap (λ (ls : List (List ℕ)). h .done ++ ls) next ∙ sym (append-assoc (h .done) (l ∷ []) rest);
-        counted = length-push (h .done) l ∙ ap (λ n. n + 1) (h .counted) ∙ sym count-is;
-        each = each-more 1 (h .done) (h .entries) l e (h .each) (subst (λ n. ComesOutAs n l e) number comes);
-        bytes = out-is ∙ ap (λ (m : List ℕ). m ++ bytes) (h .bytes) ∙ joined-more bytesOf start (h .entries) e;
-        lines-are = omega (arith, lines-is, h .lines-are, lines-more (h .entries) e);
-        pairs-are = omega (arith, pairs-is, h .pairs-are, pairs-more (h .entries) e);
-        few-lines = omega (arith, lines-is, count-is, h .few-lines, one-line o);
-        few-pairs = omega (arith, pairs-is, count-is, h .few-pairs, few-pairs (count + 1) l o bytes comes);
-        room = λ k. omega (arith, h .room k, ap roomFor next, ap length out-is, length-append out bytes);
-      }
+  module _ (ahead : List (List ℕ)) (count : ℕ) (out : List ℕ) (lines pairs : ℕ) (h : Sofar all before start cap ahead count out lines pairs) where
+    module _ (l : List ℕ) (rest : List (List ℕ)) (next : ahead ≡ l ∷ rest) where
+      pub sofar-more : (o : Outcome) (bytes : List ℕ) → ComesOut (count + 1) l o bytes → length bytes ≤ length l + 65
+          → (count′ : ℕ) (out′ : List ℕ) (lines′ pairs′ : ℕ) → count′ ≡ count + 1 → out′ ≡ out ++ bytes → lines′ ≡ lines + lineIn o → pairs′ ≡ pairs + pairsIn o
+          → Sofar all before start cap rest count′ out′ lines′ pairs′
+      sofar-more o bytes comes short count′ out′ lines′ pairs′ count-is out-is lines-is pairs-is =
+          let e : Entry = record { outcome = o; bytes = bytes } in
+          let number : count + 1 ≡ before + 1 + length (h .done) = omega (arith, h .counted) in
+          record {
+            done = h .done ++ l ∷ [];
+            entries = h .entries ++ e ∷ [];
+            split = h .split ∙ ap (λ (ls : List (List ℕ)). h .done ++ ls) next ∙ sym (append-assoc (h .done) (l ∷ []) rest);
+            counted = omega (arith, length-push (h .done) l, h .counted, count-is);
+            each = each-more (before + 1) (h .done) (h .entries) l e (h .each) (subst (λ n. ComesOutAs n l e) number comes);
+            bytes = out-is ∙ ap (λ (m : List ℕ). m ++ bytes) (h .bytes) ∙ joined-more bytesOf start (h .entries) e;
+            lines-are = omega (arith, lines-is, h .lines-are, lines-more (h .entries) e);
+            pairs-are = omega (arith, pairs-is, h .pairs-are, pairs-more (h .entries) e);
+            few-lines = omega (arith, lines-is, count-is, h .few-lines, one-line o);
+            few-pairs = omega (arith, pairs-is, count-is, h .few-pairs, few-pairs (count + 1) l o bytes comes);
+            room = λ k. omega (arith, h .room k, ap roomFor next, ap length out-is, length-append out bytes);
+          }
 
-  pub line-room : (cap′ : ℕ) → length start + roomFor (planLines input) ≤ cap → cap ≤ cap′ → length out + (length l + 65) ≤ cap′
-  line-room cap′ room more = omega (arith, h .room room, ap roomFor next)
+      pub line-room : (cap′ : ℕ) → length start + roomFor all ≤ cap → cap ≤ cap′ → length out + (length l + 65) ≤ cap′
+      line-room cap′ room more = omega (arith, h .room room, ap roomFor next)
 
-module _ (input start : List ℕ) (cap : ℕ) (ahead : List (List ℕ)) (count : ℕ) (out : List ℕ) (lines pairs : ℕ) (h : Sofar input start cap ahead count out lines pairs) (end : ahead ≡ []) where
-  pub tail-room : (cap′ : ℕ) → length start + roomFor (planLines input) ≤ cap → cap ≤ cap′ → length out + 65 ≤ cap′
-  tail-room cap′ room more = omega (arith, h .room room, ap roomFor end)
+    module _ (end : ahead ≡ []) where
+      pub tail-room : (cap′ : ℕ) → length start + roomFor all ≤ cap → cap ≤ cap′ → length out + 65 ≤ cap′
+      tail-room cap′ room more = omega (arith, h .room room, ap roomFor end)
 
-  pub sofar-end : (added : List ℕ) × (out ++ tailLine lines pairs ≡ start ++ added) × Output input added
-  sofar-end =
-      let all = h .split ∙ ap (λ (ls : List (List ℕ)). h .done ++ ls) end ∙ append-nil (h .done) in
-      let tail : tailLine lines pairs ≡ tailLine (linesAdded (h .entries)) (pairsAdded (h .entries)) = λ i. tailLine (h .lines-are i) (h .pairs-are i) in (
-        joined bytesOf (h .entries) ++ tailLine (linesAdded (h .entries)) (pairsAdded (h .entries)),
-        (λ i. h .bytes i ++ tail i) ∙ append-assoc start (joined bytesOf (h .entries)) (tailLine (linesAdded (h .entries)) (pairsAdded (h .entries))),
-        record { entries = h .entries; each = subst (λ (ls : List (List ℕ)). EachComesOut 1 ls (h .entries)) (sym all) (h .each); whole = refl },
-      )
+      pub sofar-end : (added : List ℕ) × (out ++ tailLine lines pairs ≡ start ++ added) × PlanOutput before all added
+      sofar-end =
+          let whole = h .split ∙ ap (λ (ls : List (List ℕ)). h .done ++ ls) end ∙ append-nil (h .done) in
+          let tail : tailLine lines pairs ≡ tailLine (linesAdded (h .entries)) (pairsAdded (h .entries)) = λ i. tailLine (h .lines-are i) (h .pairs-are i) in
+          (joined bytesOf (h .entries) ++ tailLine (linesAdded (h .entries)) (pairsAdded (h .entries)),
+          (λ i. h .bytes i ++ tail i) ∙ append-assoc start (joined bytesOf (h .entries)) (tailLine (linesAdded (h .entries)) (pairsAdded (h .entries))),
+          record { entries = h .entries; each = subst (λ (ls : List (List ℕ)). EachComesOut (before + 1) ls (h .entries)) (sym whole) (h .each); whole = refl })
+
+-- the lines of a plan need no more room than all that follow
+pub room-up-to : (ls : List (List ℕ)) → roomFor (upToTail ls) ≤ roomFor ls
+room-up-to [] = omega arith
+room-up-to (l ∷ ls) = by-test (beginsTail l) (room-up-to ls)
+  where
+    by-test : (b : Bool) → roomFor (upToTail ls) ≤ roomFor ls → roomFor (cond b [] (l ∷ upToTail ls)) ≤ roomFor (l ∷ ls)
+    by-test true h = omega (arith, room-some ls)
+    by-test false h = omega arith

@@ -5,7 +5,7 @@ use mathlib.Core.Bool.{Bool, true, false}
 use mathlib.Core.List.{List, [], _∷_, _++_}
 use Prim.Native.Nat.{ℕ, _<_}
 use lib.Dec.{eqb}
-use lib.ListN.{length}
+use lib.ListN.{length, take}
 use Rattle.std.specs.shelf.Lists.{All}
 
 -- The definition. A byte belongs to the first line of what follows it; a byte 10 begins a line of its own, which it ends.
@@ -35,6 +35,10 @@ SplitInto input (l ∷ ls) =
 pub record Lines (input : List ℕ) (ls : List (List ℕ)) : Type 0 where
   pub split : SplitInto input ls
   pub only : (ms : List (List ℕ)) → SplitInto input ms → ms ≡ ls
+
+-- input after the first 99,999 lines counts as absent
+abbrev pub countedLines : List ℕ → List (List ℕ)
+countedLines input = take 99999 (linesOf input)
 
 -- the bytes begin with a byte 10, or there are none
 abbrev pub LineEnds : List ℕ → Type 0

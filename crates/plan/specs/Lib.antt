@@ -1,6 +1,11 @@
+pub mod AnyNotations
 pub mod Command
 pub mod InputLines
 pub mod LinesAhead
+pub mod NumberedAhead
 pub mod PlanLines
 pub mod PlanLinesAhead
+pub mod Plans
 pub mod Reports
+pub mod SectionViews
+pub mod Sections

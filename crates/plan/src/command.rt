@@ -1,24 +1,34 @@
 // The command: from a line to what it becomes, and from the whole input to the whole output.
 ghost use mathlib.Core.Path.{_≡_};
 ghost use mathlib.Core.Bool.{true, cond};
+ghost use mathlib.Core.Logic.{_⊎_};
 ghost use mathlib.Core.List.{List, _∷_, _++_};
 ghost use Prim.Native.Nat.{ℕ, _+_, _≤_, _<_};
 ghost use lib.ListN.{length};
 ghost use Rattle.std.specs.Of.Vec.{vec-items, vec-len, vec-cap};
+ghost use Rattle.std.specs.declared.result.Result.the-variants.{Ok, Err};
 ghost use Rattle.std.specs.Results.{Cases, isOk};
 ghost use Rattle.std.specs.Vec.{made};
 ghost use Rattle.tokens.specs.InOrder.{Only};
 ghost use Rattle.tokens.specs.Limits.{WithinLimits};
 ghost use Rattle.tokens.specs.Spacing.{respaced, pairsOf};
-ghost use Rattle.plan.specs.Command.{LineFault, ComesOut, ComesOutAs, Output, planLines, roomFor};
+ghost use Rattle.plan.specs.Command.{Output};
+ghost use Rattle.plan.specs.InputLines.{countedLines};
+ghost use Rattle.plan.specs.NumberedAhead.{numberedAhead};
+ghost use Rattle.plan.specs.Plans.{LineFault, ComesOut, ComesOutAs, upToTail, PlanOutput, roomFor};
+ghost use Rattle.plan.specs.Sections.{Section, Notation};
 ghost use Rattle.plan.specs.PlanLines.{IsPlanLine};
 ghost use Rattle.plan.specs.Reports.{lineEnd};
+use crate::any_notation::AnyNotation;
+use crate::input_fault::InputFault;
+use crate::numbered_lines::NumberedLines;
 use crate::outcome::Outcome;
 use crate::plan_line::PlanLine;
 use crate::plan_lines::PlanLines;
 use crate::plan_lines::PlanLinesIterator;
 use crate::report::push_fault_line;
 use crate::report::push_tail;
+use crate::sections::read_notation;
 use crate::tally::Tally;
 use std::alloc::AllocError;
 use tokens::Fault;
@@ -73,27 +83,54 @@ pub fn translate_line(out: &mut Vec<u8>, number: usize, line: &[u8]) -> Result<O
 }
 
 // Appends what each line of the plan becomes, and the tail.
-fn translate_lines(out: &mut Vec<u8>, input: &[u8]) -> Result<(), AllocError>
-    ensures answer { λ r. ⌜ ((added : List ℕ) × (vec-items (now (out .exit)) ≡ vec-items (now (out .entry)) ++ added) × made r (λ _. Output (now (input .entry)) added)) ⌝ }
-    ensures capacity { λ _. ⌜ vec-cap (now (out .entry)) ≤ vec-cap (now (out .exit)) ⌝ }
-    ensures succeeds { λ r. ⌜ (vec-len (now (out .entry)) + roomFor (planLines (now (input .entry))) ≤ vec-cap (now (out .entry)) → isOk r ≡ true) ⌝ }
+fn translate_plan(out: &mut Vec<u8>, lines: NumberedLines<'_>) -> Result<(), AllocError>
+    ensures answer { λ r. ⌜ ((added : List ℕ) × (vec-items (now (out .exit)) ≡ vec-items (now (out .entry)) ++ added) × made r (λ _. PlanOutput (lines .entry .count) (upToTail (numberedAhead (lines .entry))) added)) ⌝ }
+    ensures succeeds { λ r. ⌜ (vec-len (now (out .entry)) + roomFor (upToTail (numberedAhead (lines .entry))) ≤ vec-cap (now (out .entry)) → isOk r ≡ true) ⌝ }
 {
     let mut tally = Tally { lines: 0, pairs: 0 };
-    for line in PlanLines::new(input) {
+    for line in PlanLines::new(lines) {
         let outcome = translate_line(out, line.number, line.bytes)?;
         tally.count(outcome);
     }
     push_tail(out, tally.lines, tally.pairs)
 }
 
-// Appends the whole output of the whole input: what each line of its plan becomes, and the tail.
-// Without the memory for it `out` stays as it is.
+// The two notations that the input begins with.
+#[derive(Drop)]
+struct Notations {
+    from: AnyNotation,
+    into: AnyNotation,
+}
+
+// Reads the two notations, or tells the first line that may not stand there, and why.
+fn read_notations(lines: &mut NumberedLines<'_>) -> Result<Notations, InputFault>
+    ensures { λ r. ⌜ Cases r (λ _. (s : Section) × Notation (now (lines .entry) .count) (numberedAhead (now (lines .entry))) (Ok s) × ((t : Section) × Notation (s .count) (s .rest) (Ok t) × (t .rest ≡ numberedAhead (now (lines .exit))) × (t .count ≡ now (lines .exit) .count))) (λ e. Notation (now (lines .entry) .count) (numberedAhead (now (lines .entry))) (Err e) ⊎ ((s : Section) × Notation (now (lines .entry) .count) (numberedAhead (now (lines .entry))) (Ok s) × Notation (s .count) (s .rest) (Err e))) ⌝ }
+{
+    let from = read_notation(lines)?;
+    let into = read_notation(lines)?;
+    Ok(Notations { from, into })
+}
+
+// Appends what comes after the notations that the input begins with, or the fault line of the first that is refused.
+fn translate_input(out: &mut Vec<u8>, input: &[u8]) -> Result<(), AllocError>
+    ensures answer { λ r. ⌜ ((added : List ℕ) × (vec-items (now (out .exit)) ≡ vec-items (now (out .entry)) ++ added) × made r (λ _. Output (now (input .entry)) added)) ⌝ }
+    ensures succeeds { λ r. ⌜ (vec-len (now (out .entry)) + roomFor (countedLines (now (input .entry))) ≤ vec-cap (now (out .entry)) → isOk r ≡ true) ⌝ }
+{
+    let mut lines = NumberedLines::new(input);
+    match read_notations(&mut lines) {
+        Ok(_) => translate_plan(out, lines),
+        Err(refused) => push_fault_line(out, refused.line, refused.fault),
+    }
+}
+
+// Appends the whole output of the whole input: after its two notations what each line of its plan becomes, and the
+// tail. Without the memory for it `out` stays as it is.
 pub fn translate(out: &mut Vec<u8>, input: &[u8]) -> Result<(), AllocError>
     ensures answer { λ r. ⌜ Cases r (λ _. (added : List ℕ) × (vec-items (now (out .exit)) ≡ vec-items (now (out .entry)) ++ added) × Only (Output (now (input .entry))) added) (λ _. vec-items (now (out .exit)) ≡ vec-items (now (out .entry))) ⌝ }
-    ensures succeeds { λ r. ⌜ (vec-len (now (out .entry)) + roomFor (planLines (now (input .entry))) ≤ vec-cap (now (out .entry)) → isOk r ≡ true) ⌝ }
+    ensures succeeds { λ r. ⌜ (vec-len (now (out .entry)) + roomFor (countedLines (now (input .entry))) ≤ vec-cap (now (out .entry)) → isOk r ≡ true) ⌝ }
 {
     let mark = out.len();
-    let done = translate_lines(out, input);
+    let done = translate_input(out, input);
     if done.is_err() {
         out.truncate(mark);
     }

@@ -1,7 +1,7 @@
 // What a plan has come to: the lines put out, and the pairs of brackets in them.
 ghost use mathlib.Core.Path.{_≡_};
 ghost use Prim.Native.Nat.{_+_, _^_, _<_};
-ghost use Rattle.plan.specs.Command.{lineIn, pairsIn};
+ghost use Rattle.plan.specs.Plans.{lineIn, pairsIn};
 use crate::outcome::Outcome;
 
 #[derive(Clone, Copy)]

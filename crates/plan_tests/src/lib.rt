@@ -19,38 +19,52 @@ mod tests {
     }
 
     #[test]
-    fn inputs_at_their_ends(rt: LibcRuntime) -> Result<(), Fail> {
-        check_output(&rt, b"", b"#0 0\n")?;
-        check_output(&rt, b"\n", b"!P40 1 0\n#0 0\n")?;
-        check_output(&rt, b"1\ta", b"1\ta\n#1 0\n").note("no last line end")?;
-        check_output(&rt, b"1\ta\n\n", b"1\ta\n!P40 2 0\n#1 0\n").note("an empty last line")?;
-        check_output(&rt, b"#", b"#0 0\n").note("a tail at once")
+    fn plans_at_their_ends(rt: LibcRuntime) -> Result<(), Fail> {
+        check_output(&rt, b"ladder\nladder", b"#0 0\n")?;
+        check_output(&rt, b"ladder\nladder\n\n", b"!P40 3 0\n#0 0\n")?;
+        check_output(&rt, b"ladder\nladder\n1\ta", b"1\ta\n#1 0\n").note("no last line end")?;
+        check_output(&rt, b"ladder\nladder\n#", b"#0 0\n").note("a tail at once")?;
+        check_output(
+            &rt,
+            b"declared\n0 900 fy not\nend\nladder\n201\t( a ) * b\n202\tc + \xff\n#9 9\n203\td\n",
+            b"201\t(a)*b\n!R21 6 4\n#1 1\n",
+        )
     }
 
     #[test]
-    fn what_comes_out(rt: LibcRuntime) -> Result<(), Fail> {
+    fn notations_that_are_refused(rt: LibcRuntime) -> Result<(), Fail> {
+        check_output(&rt, b"", b"!D10 1 0\n").note("no notation")?;
+        check_output(&rt, b"ladder\n", b"!D10 2 0\n").note("one notation")?;
+        check_output(&rt, b"ladder\nLadder\n", b"!D10 2 0\n")?;
+        check_output(&rt, b"ladder \n", b"!D10 1 0\n").note("a space after the word")?;
+        check_output(&rt, b"declared\n", b"!D10 2 0\n").note("no end")?;
+        check_output(&rt, b"declared\nend\ndeclared\n1 2\n", b"!D10 4 0\n")?;
         check_output(
             &rt,
-            b"201\t( a ) * b\n202\tc + \xff\n#9 9\n203\td\n",
-            b"201\t(a)*b\n!R21 2 4\n#1 1\n",
-        )?;
-        check_output(&rt, b"1\t- -a b\n", b"1\t- -a b\n#1 0\n")
+            b"ladder\ndeclared\n32 400 yfx *\n33 400 xfy =>\nend\n1\ta\n",
+            b"!D17 4 2\n",
+        )
     }
 
     #[test]
     fn tokens_and_their_places() -> Result<(), Fail> {
         let mut cutter = Cutter::new(b" ab+(1 <=");
-        let word = cutter.next().ok_or("no word")?;
+        let word = cutter.next()
+            .ok_or("no word")?;
         check(word.kind() == TokenKind::Word)?;
         check(word.place() == 1)?;
         check(word.bytes() == b"ab")?;
-        let plus = cutter.next().ok_or("no symbol")?;
+        let plus = cutter.next()
+            .ok_or("no symbol")?;
         check(plus.kind() == TokenKind::Symbol)?;
-        let open = cutter.next().ok_or("no bracket")?;
+        let open = cutter.next()
+            .ok_or("no bracket")?;
         check(open.place() == 4)?;
-        let number = cutter.next().ok_or("no number")?;
+        let number = cutter.next()
+            .ok_or("no number")?;
         check(number.bytes() == b"1")?;
-        let at_most = cutter.next().ok_or("no last symbol")?;
+        let at_most = cutter.next()
+            .ok_or("no last symbol")?;
         check(at_most.bytes() == b"<=")?;
         check(cutter.next().is_none())
     }

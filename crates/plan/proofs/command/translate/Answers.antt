@@ -14,7 +14,7 @@ use Rattle.std.proofs.shelf.Lists.{take-at}
 use Rattle.std.proofs.shelf.Tests.{false≢true}
 use Rattle.tokens.specs.InOrder.{Only}
 use Rattle.plan.specs.Command.{Output}
-use Rattle.plan.proofs.Outputs.{output-only}
+use Rattle.plan.proofs.Whole.{output-only}
 use Rattle.plan.proofs.command.translate.Needs as need
 
 module _ (input start : List ℕ) (final : List ℕ) where
@@ -31,19 +31,19 @@ module _ (input start : List ℕ) (final : List ℕ) where
 
 pub returns-then-is-err : need.returns-then-is-err
 returns-then-is-err c =
-    let told = c .translate-lines-done .ensures in
+    let told = c .translate-input-done .ensures in
     let out = c .args .out .now in
     let mark : length (vec-items out) ≡ c .len-mark .result = sym (c .len-mark .ensures ∙ out .ok .0) in
     let same = c .truncate .ensures .items ∙ ap (take (c .len-mark .result)) (told .answer .1) ∙ take-at (vec-items out) (told .answer .0) (c .len-mark .result) mark in
     record {
-      answer = refused (c .args .input .now) (vec-items out) (vec-items (c .truncate .last .self)) (c .translate-lines-done .result) (sym (c .if-is-err .ensures tt .value)) same;
+      answer = refused (c .args .input .now) (vec-items out) (vec-items (c .truncate .last .self)) (c .translate-input-done .result) (sym (c .if-is-err .ensures tt .value)) same;
       succeeds = told .succeeds;
     }
 
 pub returns-else-is-err : need.returns-else-is-err
 returns-else-is-err c =
-    let told = c .translate-lines-done .ensures in
+    let told = c .translate-input-done .ensures in
     record {
-      answer = accepted (c .args .input .now) (vec-items (c .args .out .now)) (vec-items (c .translate-lines-done .last .out)) (c .translate-lines-done .result) (sym (c .if-is-err .ensures tt .value)) (told .answer .0) (told .answer .1) (told .answer .2);
+      answer = accepted (c .args .input .now) (vec-items (c .args .out .now)) (vec-items (c .translate-input-done .last .out)) (c .translate-input-done .result) (sym (c .if-is-err .ensures tt .value)) (told .answer .0) (told .answer .1) (told .answer .2);
       succeeds = told .succeeds;
     }
