@@ -1,4 +1,5 @@
 pub mod Additions
+pub mod Chained
 pub mod Laws
 pub mod Lines
 pub mod Lookups

@@ -1,9 +1,6 @@
 // Sealing a list, which makes it a notation.
 ghost use mathlib.Core.Path.{_≡_};
-ghost use Prim.Native.Nat.{ℕ, _≤_};
-ghost use lib.ListN.{getD};
-ghost use Rattle.std.specs.declared.option.Option.the-variants.{Some};
-ghost use Rattle.notation.specs.Operators.{Op};
+ghost use Rattle.notation.specs.Chains.{FirstsIn, NextsIn};
 ghost use Rattle.notation.specs.Tables.{listed};
 ghost use Rattle.notation.specs.Views.{openTable, sealedTable};
 use crate::form::Position;
@@ -13,18 +10,30 @@ use crate::list::OpenList;
 use crate::list::SealedList;
 use crate::notation::Notation;
 use crate::operator::Operator;
+use crate::slots::slot_lists;
 
-// For each byte, where a search may begin: no function below has a spelling that begins with it.
-fn first_functions(list: &OpenList) -> [u8; BYTES]
-    ensures { λ r. ⌜ ((f : ℕ) (o : Op) → openTable (now (list .entry)) f ≡ Some o → getD r (getD (o .spelling) 0 0) 0 ≤ f) ⌝ }
+// The functions of a list by the first bytes of their spellings.
+#[derive(Clone, Copy)]
+struct Chains {
+    firsts: [u8; BYTES],
+    nexts: [u8; FUNCTIONS],
+}
+
+// Links the functions whose spellings begin with the same byte, from the last to the first.
+fn link(list: &OpenList) -> Chains
+    ensures firsts { λ r. ⌜ FirstsIn (openTable (now (list .entry))) (r .firsts) ⌝ }
+    ensures nexts { λ r. ⌜ NextsIn (openTable (now (list .entry))) (r .nexts) ⌝ }
 {
     let mut firsts = [FUNCTIONS as u8; BYTES];
+    let mut nexts = [FUNCTIONS as u8; FUNCTIONS];
     for function in (0..FUNCTIONS).rev() {
         if let Some(entry) = &list.slots[function] {
-            firsts[usize::from(entry.bytes[0])] = function as u8;
+            let byte = usize::from(entry.bytes[0]);
+            nexts[function] = firsts[byte];
+            firsts[byte] = function as u8;
         }
     }
-    firsts
+    Chains { firsts, nexts }
 }
 
 impl OpenList {
@@ -32,8 +41,12 @@ impl OpenList {
     pub fn seal(self) -> SealedList
         ensures { λ r. ⌜ sealedTable r ≡ openTable self ⌝ }
     {
-        let firsts = first_functions(&self);
-        SealedList { list: self, firsts }
+        let Chains { firsts, nexts } = link(&self);
+        SealedList {
+            list: self,
+            firsts,
+            nexts,
+        }
     }
 }
 
@@ -45,8 +58,14 @@ impl SealedList {
         let [first, ..] = spelling else {
             return None;
         };
-        let start = usize::from(self.firsts[usize::from(*first)]);
-        self.list.listed_from(start, position, spelling)
+        let mut function = usize::from(self.firsts[usize::from(*first)]);
+        while function < FUNCTIONS {
+            if slot_lists(&self.list.slots[function], position, spelling) {
+                return Some(function as u8);
+            }
+            function = usize::from(self.nexts[function]);
+        }
+        None
     }
 }
 

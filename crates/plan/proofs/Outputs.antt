@@ -161,10 +161,11 @@ module _ (all : List (List ℕ)) (before : ℕ) (start : List ℕ) (cap : ℕ) w
       pub sofar-end : (added : List ℕ) × (out ++ tailLine lines pairs ≡ start ++ added) × PlanOutput before all added
       sofar-end =
           let whole = h .split ∙ ap (λ (ls : List (List ℕ)). h .done ++ ls) end ∙ append-nil (h .done) in
-          let tail : tailLine lines pairs ≡ tailLine (linesAdded (h .entries)) (pairsAdded (h .entries)) = λ i. tailLine (h .lines-are i) (h .pairs-are i) in
-          (joined bytesOf (h .entries) ++ tailLine (linesAdded (h .entries)) (pairsAdded (h .entries)),
-          (λ i. h .bytes i ++ tail i) ∙ append-assoc start (joined bytesOf (h .entries)) (tailLine (linesAdded (h .entries)) (pairsAdded (h .entries))),
-          record { entries = h .entries; each = subst (λ (ls : List (List ℕ)). EachComesOut (before + 1) ls (h .entries)) (sym whole) (h .each); whole = refl })
+          let tail : tailLine lines pairs ≡ tailLine (linesAdded (h .entries)) (pairsAdded (h .entries)) = λ i. tailLine (h .lines-are i) (h .pairs-are i) in (
+            joined bytesOf (h .entries) ++ tailLine (linesAdded (h .entries)) (pairsAdded (h .entries)),
+            (λ i. h .bytes i ++ tail i) ∙ append-assoc start (joined bytesOf (h .entries)) (tailLine (linesAdded (h .entries)) (pairsAdded (h .entries))),
+            record { entries = h .entries; each = subst (λ (ls : List (List ℕ)). EachComesOut (before + 1) ls (h .entries)) (sym whole) (h .each); whole = refl },
+          )
 
 -- the lines of a plan need no more room than all that follow
 pub room-up-to : (ls : List (List ℕ)) → roomFor (upToTail ls) ≤ roomFor ls

@@ -59,12 +59,12 @@ declarations-one [] t n r s p q = p ∙ sym q
 declarations-one (l ∷ ls) t n r s x y =
     if-one (l ≡ codes "end") (λ q. q ≡ Ok (section t ls (n + 1))) (Going t n l ls) r s (λ p q. p ∙ sym q)
     (⊎-elim
-      (λ (f, h, is). ⊎-elim
-        (λ (g, k, also). is ∙ ap (λ (e : Fault). Err (faultAtLine (n + 1) e)) (fault-same f g (declares-one t (Err f) (Err g) l h k)) ∙ sym also)
-        (λ (k, _). absurd (never f (declares-one t (Ok tt) (Err f) l k h))))
-      (λ (h, (u, added, more)). ⊎-elim
-        (λ (g, k, _). absurd (never g (declares-one t (Ok tt) (Err g) l h k)))
-        (λ (_, (v, also, others)). declarations-one ls u (n + 1) r s more (subst (λ (w : Table). Declarations w (n + 1) ls s) (added-one t v u l also added) others))))
+    (λ (f, h, is). ⊎-elim
+    (λ (g, k, also). is ∙ ap (λ (e : Fault). Err (faultAtLine (n + 1) e)) (fault-same f g (declares-one t (Err f) (Err g) l h k)) ∙ sym also)
+    (λ (k, _). absurd (never f (declares-one t (Ok tt) (Err f) l k h))))
+    (λ (h, (u, added, more)). ⊎-elim
+    (λ (g, k, _). absurd (never g (declares-one t (Ok tt) (Err g) l h k)))
+    (λ (_, (v, also, others)). declarations-one ls u (n + 1) r s more (subst (λ (w : Table). Declarations w (n + 1) ls s) (added-one t v u l also added) others))))
     x y
 
 -- one notation

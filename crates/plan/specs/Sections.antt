@@ -45,7 +45,7 @@ Declarations t n [] r = r ≡ Err (malformed (n + 1))
 Declarations t n (l ∷ ls) r =
     If (l ≡ codes "end") (λ s. s ≡ Ok (section t ls (n + 1)))
     (λ s. ((f : Fault) × Declares t l (Err f) × (s ≡ Err (faultAtLine (n + 1) f)))
-        ⊎ (Declares t l (Ok tt) × ((u : Table) × Added t l u × Declarations u (n + 1) ls s)))
+    ⊎ (Declares t l (Ok tt) × ((u : Table) × Added t l u × Declarations u (n + 1) ls s)))
     r
 
 -- A notation, after n lines of the input.

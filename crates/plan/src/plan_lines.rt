@@ -46,6 +46,10 @@ pub impl<'a> Iterator for PlanLines<'a> as PlanLinesIterator {
     // The next line of the plan, or none where the plan ends.
     fn next(&mut self) -> Option<NumberedLine<'a>> {
         let line = self.lines.next()?;
-        if begins_tail(line.bytes) { None } else { Some(line) }
+        if begins_tail(line.bytes) {
+            None
+        } else {
+            Some(line)
+        }
     }
 }

@@ -9,16 +9,16 @@ ghost use Rattle.notation.specs.Views.{openTable};
 ghost use Rattle.plan.specs.NumberedAhead.{numberedAhead};
 ghost use Rattle.plan.specs.Sections.{emptyTable, malformed, Declarations, Notation};
 ghost use Rattle.plan.specs.SectionViews.{notationRead, listRead};
-use notation::Ladder;
-use notation::OpenList;
-use notation::SealedList;
-use tokens::Fault;
-use tokens::FaultKind;
 use crate::any_notation::AnyNotation;
 use crate::input_fault::InputFault;
 use crate::numbered_lines::NumberedLine;
 use crate::numbered_lines::NumberedLines;
 use crate::numbering::NumberedLinesIterator;
+use notation::Ladder;
+use notation::OpenList;
+use notation::SealedList;
+use tokens::Fault;
+use tokens::FaultKind;
 
 // Whether the line is this word and nothing else.
 fn is_word(line: &[u8], word: &[u8]) -> bool

@@ -49,22 +49,17 @@ mod tests {
     #[test]
     fn tokens_and_their_places() -> Result<(), Fail> {
         let mut cutter = Cutter::new(b" ab+(1 <=");
-        let word = cutter.next()
-            .ok_or("no word")?;
+        let word = cutter.next().ok_or("no word")?;
         check(word.kind() == TokenKind::Word)?;
         check(word.place() == 1)?;
         check(word.bytes() == b"ab")?;
-        let plus = cutter.next()
-            .ok_or("no symbol")?;
+        let plus = cutter.next().ok_or("no symbol")?;
         check(plus.kind() == TokenKind::Symbol)?;
-        let open = cutter.next()
-            .ok_or("no bracket")?;
+        let open = cutter.next().ok_or("no bracket")?;
         check(open.place() == 4)?;
-        let number = cutter.next()
-            .ok_or("no number")?;
+        let number = cutter.next().ok_or("no number")?;
         check(number.bytes() == b"1")?;
-        let at_most = cutter.next()
-            .ok_or("no last symbol")?;
+        let at_most = cutter.next().ok_or("no last symbol")?;
         check(at_most.bytes() == b"<=")?;
         check(cutter.next().is_none())
     }

@@ -30,10 +30,12 @@ loop-line-holds c =
     let all = upToTail (numberedAhead (c .args .lines)) in
     let before = c .args .lines .count in
     let out = vec-items (c .args .out .now) in
-    let cap = vec-cap (c .args .out .now) in
-    (tt, tt,
-    subst (λ n. Sofar all before out cap (planAhead (c .into-iter-line-iterator .result)) n out 0 0) (sym none) (subst (λ (ls : List (List ℕ)). Sofar all before out cap ls before out 0 0) (sym ahead) (sofar-none all before out cap)),
-    omega arith)
+    let cap = vec-cap (c .args .out .now) in (
+      tt,
+      tt,
+      subst (λ n. Sofar all before out cap (planAhead (c .into-iter-line-iterator .result)) n out 0 0) (sym none) (subst (λ (ls : List (List ℕ)). Sofar all before out cap ls before out 0 0) (sym ahead) (sofar-none all before out cap)),
+      omega arith,
+    )
 
 -- the line comes out with its number, one more than those before it
 came : (c : In-Continue-outcome) → ComesOut (planCount (c .loop-line .line-iterator) + 1) (c .in-Some .line .bytes .now) (c .in-Continue-outcome .outcome) (c .in-Continue-outcome .ensures tt .answer .0)
@@ -53,11 +55,13 @@ loop-line-again c =
     let bytes = told .answer .0 in
     let step = c .in-Some .ensures tt .steps in
     let out = c .loop-line .out in
-    let short : length bytes ≤ length (c .in-Some .line .bytes .now) + 65 = omega (arith, told .len, ap length (told .answer .1), length-append (vec-items out) bytes, out .ok .0, c .translate-line .last .out .ok .0) in
-    (tt, tt,
-    sofar-more (upToTail (numberedAhead (c .args .lines))) (c .args .lines .count) (vec-items (c .args .out .now)) (vec-cap (c .args .out .now)) (planAhead (c .loop-line .line-iterator)) (planCount (c .loop-line .line-iterator)) (vec-items out) (c .loop-line .tally .lines) (c .loop-line .tally .pairs) (c .loop-line .inv .2) (c .in-Some .line .bytes .now) (planAhead (c .next .last .self)) (step .0)
-    (c .in-Continue-outcome .outcome) bytes (came (need.at·loop-line-again c .In-Continue-outcome)) short _ _ _ _ (step .3) (told .answer .1) (c .count .ensures .lines) (c .count .ensures .pairs),
-    omega (arith, c .loop-line .inv .3, told .capacity))
+    let short : length bytes ≤ length (c .in-Some .line .bytes .now) + 65 = omega (arith, told .len, ap length (told .answer .1), length-append (vec-items out) bytes, out .ok .0, c .translate-line .last .out .ok .0) in (
+      tt,
+      tt,
+      sofar-more (upToTail (numberedAhead (c .args .lines))) (c .args .lines .count) (vec-items (c .args .out .now)) (vec-cap (c .args .out .now)) (planAhead (c .loop-line .line-iterator)) (planCount (c .loop-line .line-iterator)) (vec-items out) (c .loop-line .tally .lines) (c .loop-line .tally .pairs) (c .loop-line .inv .2) (c .in-Some .line .bytes .now) (planAhead (c .next .last .self)) (step .0)
+          (c .in-Continue-outcome .outcome) bytes (came (need.at·loop-line-again c .In-Continue-outcome)) short _ _ _ _ (step .3) (told .answer .1) (c .count .ensures .lines) (c .count .ensures .pairs),
+      omega (arith, c .loop-line .inv .3, told .capacity),
+    )
 
 pub returns-in-Break-outcome : need.returns-in-Break-outcome
 returns-in-Break-outcome c =
@@ -66,7 +70,7 @@ returns-in-Break-outcome c =
     let inv = c .loop-line .inv in
     let all = upToTail (numberedAhead (c .args .lines)) in
     let fits : vec-len (c .args .out .now) + roomFor all ≤ vec-cap (c .args .out .now) → vec-len (c .loop-line .out) + (length (c .in-Some .line .bytes .now) + 65) ≤ vec-cap (c .loop-line .out) =
-        λ room. subst (λ n. n + (length (c .in-Some .line .bytes .now) + 65) ≤ vec-cap (c .loop-line .out)) (sym (c .loop-line .out .ok .0)) (line-room _ _ _ _ _ _ _ _ _ (inv .2) _ _ (c .in-Some .ensures tt .steps .0) (vec-cap (c .loop-line .out)) (subst (λ n. n + roomFor all ≤ vec-cap (c .args .out .now)) (c .args .out .now .ok .0) room) (inv .3)) in
+    λ room. subst (λ n. n + (length (c .in-Some .line .bytes .now) + 65) ≤ vec-cap (c .loop-line .out)) (sym (c .loop-line .out .ok .0)) (line-room _ _ _ _ _ _ _ _ _ (inv .2) _ _ (c .in-Some .ensures tt .steps .0) (vec-cap (c .loop-line .out)) (subst (λ n. n + roomFor all ≤ vec-cap (c .args .out .now)) (c .args .out .now .ok .0) room) (inv .3)) in
     rw (p .1) (record { answer = (_, told .answer ∙ inv .2 .bytes, tt); succeeds = λ room. absurd (false≢true (told .succeeds (fits room))) })
 
 -- the tail is put, or memory was wanting and nothing is
@@ -81,7 +85,7 @@ returns c =
     let end = c .in-None .ensures tt .steps in
     let all = upToTail (numberedAhead (c .args .lines)) in
     let fits : vec-len (c .args .out .now) + roomFor all ≤ vec-cap (c .args .out .now) → vec-len (c .loop-line .out) + 65 ≤ vec-cap (c .loop-line .out) =
-        λ room. subst (λ n. n + 65 ≤ vec-cap (c .loop-line .out)) (sym (c .loop-line .out .ok .0)) (tail-room _ _ _ _ _ _ _ _ _ (inv .2) end (vec-cap (c .loop-line .out)) (subst (λ n. n + roomFor all ≤ vec-cap (c .args .out .now)) (c .args .out .now .ok .0) room) (inv .3)) in
+    λ room. subst (λ n. n + 65 ≤ vec-cap (c .loop-line .out)) (sym (c .loop-line .out .ok .0)) (tail-room _ _ _ _ _ _ _ _ _ (inv .2) end (vec-cap (c .loop-line .out)) (subst (λ n. n + roomFor all ≤ vec-cap (c .args .out .now)) (c .args .out .now .ok .0) room) (inv .3)) in
     record {
       answer = after-tail (PlanOutput (c .args .lines .count) all) _ _ _ _ _ (_, inv .2 .bytes) (sofar-end _ _ _ _ _ _ _ _ _ (inv .2) end) (c .push-tail .ensures .bytes);
       succeeds = λ room. c .push-tail .ensures .succeeds (fits room);

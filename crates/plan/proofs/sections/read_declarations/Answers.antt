@@ -22,11 +22,14 @@ pub loop-line-again : need.loop-line-again
 loop-line-again c =
     let step = c .in-Some .ensures tt .steps in
     let told = c .in-Continue-declare-line .ensures tt in
-    let lines = c .loop-line .lines in
-    (tt, tt, λ r h.
-        c .loop-line .inv .2 r
-        (list-goes-on (openTable (c .loop-line .list)) (lines .count) (numberedAhead lines) (c .in-Some .line .bytes .now) (numberedAhead (c .next .last .self)) (step .0) (c .if-is-word .ensures tt) (openTable (c .declare-line .last .list)) (told .0) (told .1) r
-          (subst (λ n. Declarations (openTable (c .declare-line .last .list)) n (numberedAhead (c .next .last .self)) r) (step .3) h)))
+    let lines = c .loop-line .lines in (
+      tt,
+      tt,
+      λ r h.
+          c .loop-line .inv .2 r
+          (list-goes-on (openTable (c .loop-line .list)) (lines .count) (numberedAhead lines) (c .in-Some .line .bytes .now) (numberedAhead (c .next .last .self)) (step .0) (c .if-is-word .ensures tt) (openTable (c .declare-line .last .list)) (told .0) (told .1) r
+          (subst (λ n. Declarations (openTable (c .declare-line .last .list)) n (numberedAhead (c .next .last .self)) r) (step .3) h)),
+    )
 
 pub returns-then-is-word : need.returns-then-is-word
 returns-then-is-word c =
