@@ -1,19 +1,17 @@
 -- Where the search for a spelling may begin: at its first byte's place. Assumes nothing.
-use mathlib.Core.Path.{_≡_, refl, sym, ap, subst, _∙_}
+use mathlib.Core.Path.{_≡_, sym, ap, subst, _∙_}
 use mathlib.Core.Logic.{⊎-elim}
 use mathlib.Core.List.{List}
 use Prim.Native.Nat.{ℕ, _-_, _<_, _≤_}
 use native.Mathlib.Omega.{arith}
 use lib.ListN.{length, getD, set, take}
-use Rattle.std.specs.declared.option.Option.{Option}
 use Rattle.std.specs.declared.option.Option.the-variants.{Some, None}
-use Rattle.std.specs.Options.{mapped}
 use Rattle.std.proofs.shelf.Lists.{getD-set-same, getD-set-other, getD-past, getD-take, length-set, length-take-le}
 use Rattle.std.proofs.shelf.Tests.{cases-eq, cases-lt}
 use Rattle.notation.specs.declared.entry.Entry.{Entry}
 use Rattle.notation.specs.declared.form.Position.{Position}
 use Rattle.notation.specs.Operators.{Op, Spelling}
-use Rattle.notation.specs.Slots.{opIn, tableIn}
+use Rattle.notation.specs.Slots.{opIn}
 use Rattle.notation.specs.Tables.{Table, Listed, LawfulTable}
 use Rattle.notation.proofs.Lookups.{inside}
 
