@@ -1,10 +1,10 @@
 -- The laws of a table hold in one way at most, so that they can stand in a list's type. Assumes nothing.
-use mathlib.Core.Path.{_≡_, refl, sym, ap, subst, _∙_}
+use mathlib.Core.Path.{_≡_, refl, sym, ap, _∙_}
 use mathlib.Core.HLevel.{⊥-prop, collapsible→set}
 use mathlib.Core.Logic.{_⊎_, inl, inr, ∥∥₁-elim}
-use mathlib.Core.Bool.{Bool, false}
+use mathlib.Core.Bool.{false}
 use mathlib.Core.List.{List, [], _∷_}
-use Prim.Native.Nat.{ℕ, zero, suc, _<_, _≤_}
+use Prim.Native.Nat.{ℕ, zero, suc}
 use native.Mathlib.Bridge.{le-prop}
 use native.Mathlib.Nat.{ℕ-set}
 use native.Mathlib.Omega.{arith}
@@ -16,7 +16,7 @@ use Rattle.std.specs.declared.option.Option.the-variants.{Some, None}
 use Rattle.tokens.specs.declared.token.TokenKind.{TokenKind}
 use Rattle.tokens.specs.declared.token.TokenKind.the-variants as K
 use Rattle.tokens.specs.Bytes.{isDigit}
-use Rattle.tokens.specs.Tokens.{kindOf, together, WellFormed}
+use Rattle.tokens.specs.Tokens.{kindOf, WellFormed}
 use Rattle.notation.specs.Operators.{Op, operandsOf, NoDigitFirst, Spelling}
 use Rattle.notation.specs.Tables.{Table, operandsOfFunction, LawfulOp, LawfulTable}
 

@@ -1,9 +1,9 @@
 -- A table whose rows pass one test is lawful, and its rows tell what is listed. Assumes nothing.
 use mathlib.Core.Path.{_≡_, refl, sym, ap, subst, _∙_}
 use mathlib.Core.Logic.{_⊎_, inl, inr, ⊎-elim}
-use mathlib.Core.Bool.{Bool, true, false, cond, not, _&&_, _||_}
+use mathlib.Core.Bool.{Bool, true, false, not, _&&_, _||_}
 use mathlib.Core.List.{List, [], _∷_}
-use Prim.Native.Nat.{ℕ, _<_, _≤_}
+use Prim.Native.Nat.{ℕ}
 use native.Mathlib.Omega.{arith}
 use lib.Dec.{eqb, leb, ltb}
 use lib.ListN.{length}
@@ -12,18 +12,16 @@ use Rattle.std.specs.declared.option.Option.{Option}
 use Rattle.std.specs.declared.option.Option.the-variants.{Some, None}
 use Rattle.std.proofs.shelf.Tests.{false≢true, true≢false, both-ways, and-parts, or-cases, not-true, cases-bool, ltb-true, leb-true, eqb-true, eq-eqb, and-from, or-left, or-right, cond-true, cond-false}
 use Rattle.tokens.specs.declared.byte.ByteClass.the-variants as C
-use Rattle.tokens.specs.declared.token.TokenKind.{TokenKind}
 use Rattle.tokens.specs.declared.token.TokenKind.the-variants as K
-use Rattle.tokens.specs.Bytes.{classOf, isDigit, isWordByte, isSymbolByte}
-use Rattle.tokens.specs.Tokens.{kindOf, kindIn, together, WellFormed}
-use Rattle.notation.specs.declared.form.Form.{Form}
+use Rattle.tokens.specs.Bytes.{isDigit, isWordByte, isSymbolByte}
+use Rattle.tokens.specs.Tokens.{kindOf, kindIn}
 use Rattle.notation.specs.declared.form.Position.{Position}
 use Rattle.notation.specs.declared.form.Side.{Side}
 use Rattle.notation.specs.declared.form.Side.the-variants.{X, Y}
-use Rattle.notation.specs.Declarations.{Mixed, Mixes, extended}
-use Rattle.notation.specs.Operators.{Op, positionOf, operandsOf, leftSide, rightSide, NoDigitFirst, Spelling}
+use Rattle.notation.specs.Declarations.{Mixed}
+use Rattle.notation.specs.Operators.{Op, positionOf, operandsOf, leftSide, rightSide, Spelling}
 use Rattle.notation.specs.Rows.{Row, tableOf, listedIn}
-use Rattle.notation.specs.Tables.{Table, operandsOfFunction, LawfulOp, Listed, LawfulTable, isListed, listed}
+use Rattle.notation.specs.Tables.{operandsOfFunction, LawfulOp, Listed, LawfulTable, isListed, listed}
 use Rattle.notation.proofs.Additions.{FreeIn, extended-same, extended-other, extended-cases, lawful-extended, nothing-lawful}
 use Rattle.notation.proofs.Lookups.{test-listed, listed-test, listed-none, is-listed}
 

@@ -1,6 +1,6 @@
 -- The rules of declaring: how their parts make the whole, and that they leave one answer. Assumes nothing.
 use mathlib.Core.Path.{_≡_, refl, sym, ap, subst, _∙_}
-use mathlib.Core.Logic.{_⊎_, inl, inr, ⊎-elim}
+use mathlib.Core.Logic.{inl, inr}
 use mathlib.Core.Bool.{true, false}
 use mathlib.Core.List.{List}
 use Prim.Native.Nat.{ℕ}
@@ -14,7 +14,7 @@ use Rattle.std.proofs.shelf.Tests.{false≢true, both-ways}
 use Rattle.tokens.specs.declared.fault.Fault.{Fault}
 use Rattle.tokens.specs.declared.fault.FaultKind.the-variants.{MalformedDeclaration, UnknownType, WrongFunction, PriorityOutOfRange, MalformedSpelling, FunctionListed, SpellingTaken, MixedLevel}
 use Rattle.tokens.specs.Faults.{fault}
-use Rattle.tokens.specs.InOrder.{If, IfSome, Only, Refused, Accepted}
+use Rattle.tokens.specs.InOrder.{IfSome, Only, Refused, Accepted}
 use Rattle.tokens.proofs.Firsts.{if-one, if-some-one}
 use Rattle.notation.specs.declared.declaration.Declaration.{Declaration}
 use Rattle.notation.specs.declared.form.Form.{Form}

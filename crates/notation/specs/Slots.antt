@@ -1,7 +1,6 @@
 -- The table that slots stand for: a function's operator lies in its slot.
 use mathlib.Core.List.{List}
 use lib.ListN.{getD, take}
-use Prim.Native.Nat.{ℕ}
 use Rattle.std.specs.declared.option.Option.{Option}
 use Rattle.std.specs.declared.option.Option.the-variants.{None}
 use Rattle.std.specs.Options.{mapped}

@@ -1,17 +1,10 @@
-use mathlib.Core.Path.{_≡_, refl, sym, ap, subst, _∙_}
+use mathlib.Core.Path.{refl, ap, _∙_}
 use mathlib.Core.Logic.{inl, inr, ⊎-elim}
-use mathlib.Core.Bool.{true, false}
-use mathlib.Core.List.{List, _∷_}
-use Prim.Native.Nat.{ℕ}
-use lib.Dec.{eqb}
-use lib.ListN.{length}
-use Rattle.std.specs.Orderings.{Decides}
+use mathlib.Core.List.{_∷_}
 use Rattle.std.proofs.shelf.Tests.{false≢true, eqb-true}
 use Rattle.tokens.specs.declared.token.Token.{Token}
-use Rattle.tokens.specs.declared.token.Token.the-variants as T
 use Rattle.tokens.specs.Cutters.{ahead}
-use Rattle.tokens.specs.Tokens.{Placed, placed}
-use Rattle.notation.specs.Operators.{Spelling}
+use Rattle.tokens.specs.Tokens.{placed}
 use Rattle.notation.proofs.Spellings.{no-token, not-whole, bracket, symbol-decides, word-decides}
 use Rattle.notation.proofs.checking.is_spelling.Needs as need
 

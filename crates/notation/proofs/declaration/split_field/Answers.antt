@@ -1,7 +1,6 @@
-use mathlib.Core.Path.{_≡_, refl, sym, ap, subst, _∙_}
+use mathlib.Core.Path.{_≡_, subst}
 use Rattle.std.proofs.shelf.Elements.{all-more}
 use Rattle.std.proofs.shelf.Lists.{take-all}
-use Prim.Native.Nat.{ℕ}
 use Rattle.notation.proofs.Lines.{Spaceless, no-field-first, no-field, field-at}
 use Rattle.notation.proofs.declaration.split_field.Needs as need
 

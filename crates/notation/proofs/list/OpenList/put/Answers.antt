@@ -1,12 +1,9 @@
 use borrow.Author.Needs.{needs}
-use mathlib.Core.Path.{_≡_, sym, ap, subst, _∙_}
-use mathlib.Core.List.{List}
-use Prim.Native.Nat.{ℕ, _<_}
-use native.Mathlib.Omega.{arith}
+use mathlib.Core.Path.{sym, subst, _∙_}
+use Prim.Native.Nat.{_<_}
 use lib.ListN.{length}
 use Rattle.notation.specs.Declarations.{extended}
-use Rattle.notation.specs.Operators.{Op}
-use Rattle.notation.specs.Tables.{Table, LawfulTable}
+use Rattle.notation.specs.Tables.{LawfulTable}
 use Rattle.notation.specs.Views.{declaredOp, openTable}
 use Rattle.notation.proofs.Additions.{set-entry, lawful-extended}
 use Rattle.notation.proofs.Laws.{lawful-in}
