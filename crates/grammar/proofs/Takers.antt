@@ -1,0 +1,78 @@
+-- The decision between two neighbours: by limits it is as by priorities and types.
+use mathlib.Core.Path.{_≡_, refl, sym, ap, _∙_}
+use mathlib.Core.Logic.{_⊎_, inl, inr, ⊎-elim}
+use mathlib.Core.Bool.{Bool, true, false}
+use Prim.Native.Nat.{ℕ, _≤_, _<_}
+use native.Mathlib.Omega.{arith}
+use lib.Dec.{leb}
+use Rattle.std.specs.declared.option.Option.the-variants.{Some}
+use Rattle.std.proofs.shelf.Tests.{leb-true, leb-false, le-leb, lt-leb, cases-lt}
+use Rattle.notation.specs.declared.form.Side.{Side}
+use Rattle.notation.specs.declared.form.Side.the-variants.{X, Y}
+use Rattle.notation.specs.Operators.{Op, leftSide, rightSide, limit}
+use Rattle.notation.specs.Tables.{Table, LawfulTable}
+use Rattle.grammar.specs.declared.taker.Taker.{Taker}
+use Rattle.grammar.specs.declared.taker.Taker.the-variants.{Left, Right, Neither}
+use Rattle.grammar.specs.Weights.{leftLimit, rightLimit}
+use Rattle.grammar.specs.Neighbours.{chosen, taker, Takes, NeighboursDecided}
+use Rattle.grammar.proofs.Tables.{apart}
+
+-- p is smaller than q, or equal to it at a side with y
+abbrev Tighter : Side → ℕ → ℕ → Type 0
+Tighter s p q = (p < q) ⊎ ((p ≡ q) × (s ≡ Y))
+
+within : (s : Side) (p q : ℕ) → 1 ≤ q → p ≤ limit s q → Tighter s p q
+within X p q some h = inl (omega arith)
+within Y p q some h = ⊎-elim inl (λ k. inr (omega arith, refl)) (cases-lt p q)
+
+within-back : (s : Side) (p q : ℕ) → Tighter s p q → p ≤ limit s q
+within-back X p q (inl h) = omega arith
+within-back X p q (inr (e, y)) = let z : _≡_ {A = ℕ} 0 1 = cc in absurd (omega arith)
+within-back Y p q (inl h) = omega arith
+within-back Y p q (inr (e, y)) = omega arith
+
+outside : (s r : Side) (p q : ℕ) → limit s q < p → limit r p < q → (p ≡ q) × (s ≡ X) × (r ≡ X)
+outside X X p q h k = (omega arith, refl, refl)
+outside X Y p q h k = absurd (omega arith)
+outside Y X p q h k = absurd (omega arith)
+outside Y Y p q h k = absurd (omega arith)
+
+outside-back : (s : Side) (p q : ℕ) → 1 ≤ q → p ≡ q → s ≡ X → limit s q < p
+outside-back X p q some e x = omega arith
+outside-back Y p q some e x = let z : _≡_ {A = ℕ} 0 1 = cc in absurd (omega arith)
+
+turned : (s : Side) (p q : ℕ) → Tighter s p q → (p < q) ⊎ ((q ≡ p) × (s ≡ Y))
+turned s p q (inl h) = inl h
+turned s p q (inr (e, y)) = inr (sym e, y)
+
+turned-back : (s : Side) (p q : ℕ) → (p < q) ⊎ ((q ≡ p) × (s ≡ Y)) → Tighter s p q
+turned-back s p q (inl h) = inl h
+turned-back s p q (inr (e, y)) = inr (sym e, y)
+
+below : (p q : ℕ) → (p ≤ q → ⊥) → q < p
+below p q h = omega arith
+
+module _ (u o : Op) (low : 1 ≤ u .priority) (high : 1 ≤ o .priority) (levels : u .priority ≡ o .priority → rightSide (u .form) ≡ Y → leftSide (o .form) ≡ Y → ⊥) where
+  chosen-takes : (l r : Bool) → leb (u .priority) (leftLimit o) ≡ l → leb (o .priority) (rightLimit u) ≡ r → Takes u o (chosen l r)
+  chosen-takes true r d e = within (leftSide (o .form)) (u .priority) (o .priority) high (leb-true _ _ d)
+  chosen-takes false true d e = turned (rightSide (u .form)) (o .priority) (u .priority) (within (rightSide (u .form)) (o .priority) (u .priority) low (leb-true _ _ e))
+  chosen-takes false false d e = outside (leftSide (o .form)) (rightSide (u .form)) (u .priority) (o .priority) (leb-false _ _ d) (leb-false _ _ e)
+
+  takes-chosen : (v : Taker) → Takes u o v → v ≡ taker u o
+  takes-chosen Left h =
+      sym (ap (λ (l : Bool). chosen l (leb (o .priority) (rightLimit u))) (le-leb (u .priority) (leftLimit o) (within-back (leftSide (o .form)) (u .priority) (o .priority) h)))
+  takes-chosen Right h =
+      let inside = within-back (rightSide (u .form)) (o .priority) (u .priority) (turned-back (rightSide (u .form)) (o .priority) (u .priority) h) in
+      let past = below (u .priority) (leftLimit o) (λ k. apart (rightSide (u .form)) (leftSide (o .form)) (u .priority) (o .priority) low high levels k inside) in
+      sym (ap (λ (l : Bool). chosen l (leb (o .priority) (rightLimit u))) (lt-leb (u .priority) (leftLimit o) past) ∙ ap (chosen false) (le-leb (o .priority) (rightLimit u) inside))
+  takes-chosen Neither (e, x, y) =
+      let left = outside-back (leftSide (o .form)) (u .priority) (o .priority) high e x in
+      let right = outside-back (rightSide (u .form)) (o .priority) (u .priority) low (sym e) y in
+      sym (ap (λ (l : Bool). chosen l (leb (o .priority) (rightLimit u))) (lt-leb (u .priority) (leftLimit o) left) ∙ ap (chosen false) (lt-leb (o .priority) (rightLimit u) right))
+
+pub neighbours-decided : NeighboursDecided
+neighbours-decided t lawful f g u o d e =
+    let low = lawful .each f u d .low in
+    let high = lawful .each g o e .low in
+    let levels = lawful .levels f g u o d e in
+    record { is = chosen-takes u o low high levels (leb (u .priority) (leftLimit o)) (leb (o .priority) (rightLimit u)) refl refl; only = takes-chosen u o low high levels }

@@ -1,0 +1,5 @@
+pub mod Lawful
+pub mod Neighbours
+pub mod Reading
+pub mod Trees
+pub mod Weights

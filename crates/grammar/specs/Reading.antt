@@ -1,0 +1,59 @@
+-- Reading: a text reads as a tree if some lawful bracketed tree has exactly its tokens and erases to the tree.
+use mathlib.Core.Path.{_≡_}
+use mathlib.Core.Bool.{cond}
+use mathlib.Core.List.{List, [], _∷_, _++_}
+use Prim.Native.Nat.{ℕ}
+use lib.Chars.{codes}
+use Rattle.std.specs.shelf.Lists.{All}
+use Rattle.tokens.specs.declared.token.TokenKind.{TokenKind}
+use Rattle.tokens.specs.declared.token.TokenKind.the-variants.{Word, Symbol, Open, Close}
+use Rattle.tokens.specs.Bytes.{isWordByte}
+use Rattle.tokens.specs.Limits.{Lawful as LawfulByte}
+use Rattle.tokens.specs.Spacing.{lexemesOf}
+use Rattle.tokens.specs.Tokens.{Lexeme}
+use Rattle.notation.specs.Tables.{Table, LawfulTable}
+use Rattle.grammar.specs.Trees.{Tree, Bracketed, erase}
+use Rattle.grammar.specs.Trees.Bracketed.{named, pair, prefixed, postfixed, infixed}
+use Rattle.grammar.specs.Weights.{operatorIn}
+use Rattle.grammar.specs.Lawful.{Lawful}
+
+-- the tokens of names, brackets and operators; a spelling is a word if it begins with a word byte, else a symbol
+abbrev pub word : List ℕ → Lexeme
+word w = record { kind = Word; bytes = w }
+
+abbrev pub opening : Lexeme
+opening = record { kind = Open; bytes = codes "(" }
+
+abbrev pub closing : Lexeme
+closing = record { kind = Close; bytes = codes ")" }
+
+unfoldable pub kindOfSpelling : List ℕ → TokenKind
+kindOfSpelling [] = Symbol
+kindOfSpelling (b ∷ bs) = cond (isWordByte b) Word Symbol
+
+abbrev pub sign : List ℕ → Lexeme
+sign s = record { kind = kindOfSpelling s; bytes = s }
+
+module _ (t : Table) where
+  abbrev pub signOf : ℕ → Lexeme
+  signOf f = sign (operatorIn t f .spelling)
+
+  -- the tokens of a bracketed tree, in order
+  abbrev pub lexemes : Bracketed → List Lexeme
+  lexemes (named w) = word w ∷ []
+  lexemes (pair b) = opening ∷ (lexemes b ++ (closing ∷ []))
+  lexemes (prefixed f b) = signOf f ∷ lexemes b
+  lexemes (postfixed f a) = lexemes a ++ (signOf f ∷ [])
+  lexemes (infixed f a b) = lexemes a ++ (signOf f ∷ lexemes b)
+
+  -- the tokens read as the tree
+  pub record ReadsTokens (ts : List Lexeme) (tree : Tree) : Type 0 where
+    pub bracketed : Bracketed
+    pub lawful : Lawful t bracketed
+    pub tokens : lexemes bracketed ≡ ts
+    pub erased : erase bracketed ≡ tree
+
+  -- the text reads as the tree: its bytes may stand in an expression, and its tokens read as the tree
+  pub record Reads (text : List ℕ) (tree : Tree) : Type 0 where
+    pub bytes : All LawfulByte text
+    pub reading : ReadsTokens (lexemesOf text) tree

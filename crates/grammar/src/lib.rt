@@ -1,0 +1,8 @@
+// What reads as what: trees, lawful bracketed trees, reading, verdicts and the writing rule, with their theorems.
+mod due;
+mod taker;
+mod theorems;
+
+pub use due::Due;
+pub use taker::Taker;
+pub use theorems::neighbours_decided;
