@@ -1,14 +1,14 @@
 -- What the well-formed tokens are: the two brackets, and spellings of the kind of their first byte. Assumes nothing.
 use mathlib.Core.Path.{_≡_, refl, sym, ap, subst, _∙_}
 use mathlib.Core.Bool.{Bool, true, false, cond}
-use mathlib.Core.Logic.{⊎-elim}
+use mathlib.Core.Logic.{_⊎_, inl, inr, ⊎-elim}
 use mathlib.Core.List.{List, [], _∷_}
 use Prim.Native.Nat.{ℕ}
 use native.Mathlib.Omega.{arith}
 use lib.Chars.{codes}
 use lib.Dec.{eqb}
 use Rattle.std.specs.declared.option.Option.the-variants.{None, Some}
-use Rattle.std.proofs.shelf.Tests.{false≢true, or-cases, eqb-true}
+use Rattle.std.proofs.shelf.Tests.{false≢true, cases-bool, or-cases, eqb-true}
 use Rattle.tokens.specs.declared.byte.ByteClass.the-variants as C
 use Rattle.tokens.specs.declared.token.TokenKind.{TokenKind}
 use Rattle.tokens.specs.declared.token.TokenKind.the-variants.{Word, Symbol, Open, Close}
@@ -59,3 +59,9 @@ pub closing-is : (w : List ℕ) → WellFormed Close w → w ≡ codes ")"
 closing-is [] h = absurd (omega (arith, h .some))
 closing-is (b ∷ []) h = ap (λ x. x ∷ []) (only-one 41 b (byte-tested b Close (h .alike .0)))
 closing-is (b ∷ c ∷ w) h = absurd (omega (arith, h .alone refl))
+
+-- a spelling is a word or a symbol
+pub kind-cases : (s : List ℕ) → (kindOfSpelling s ≡ Word) ⊎ (kindOfSpelling s ≡ Symbol)
+unfolding kindOfSpelling
+kind-cases [] = inr refl
+kind-cases (b ∷ s) = ⊎-elim (λ e. inl (ap (λ (v : Bool). cond v Word Symbol) e)) (λ e. inr (ap (λ (v : Bool). cond v Word Symbol) e)) (cases-bool (isWordByte b))

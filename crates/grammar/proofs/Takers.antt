@@ -17,6 +17,16 @@ use Rattle.grammar.specs.Weights.{leftLimit, rightLimit}
 use Rattle.grammar.specs.Neighbours.{chosen, taker, Takes, NeighboursDecided}
 use Rattle.grammar.proofs.Tables.{apart}
 
+below : (p q : ℕ) → (p ≤ q → ⊥) → q < p
+below p q h = omega arith
+
+pub taker-left : (u o : Op) → u .priority ≤ leftLimit o → taker u o ≡ Left
+taker-left u o h = ap (λ (l : Bool). chosen l (leb (o .priority) (rightLimit u))) (le-leb (u .priority) (leftLimit o) h)
+
+pub taker-right : (u o : Op) → (u .priority ≤ leftLimit o → ⊥) → o .priority ≤ rightLimit u → taker u o ≡ Right
+taker-right u o n h =
+    ap (λ (l : Bool). chosen l (leb (o .priority) (rightLimit u))) (lt-leb (u .priority) (leftLimit o) (below (u .priority) (leftLimit o) n)) ∙ ap (chosen false) (le-leb (o .priority) (rightLimit u) h)
+
 -- p is smaller than q, or equal to it at a side with y
 abbrev Tighter : Side → ℕ → ℕ → Type 0
 Tighter s p q = (p < q) ⊎ ((p ≡ q) × (s ≡ Y))
@@ -49,9 +59,6 @@ turned-back : (s : Side) (p q : ℕ) → (p < q) ⊎ ((q ≡ p) × (s ≡ Y)) �
 turned-back s p q (inl h) = inl h
 turned-back s p q (inr (e, y)) = inr (sym e, y)
 
-below : (p q : ℕ) → (p ≤ q → ⊥) → q < p
-below p q h = omega arith
-
 module _ (u o : Op) (low : 1 ≤ u .priority) (high : 1 ≤ o .priority) (levels : u .priority ≡ o .priority → rightSide (u .form) ≡ Y → leftSide (o .form) ≡ Y → ⊥) where
   chosen-takes : (l r : Bool) → leb (u .priority) (leftLimit o) ≡ l → leb (o .priority) (rightLimit u) ≡ r → Takes u o (chosen l r)
   chosen-takes true r d e = within (leftSide (o .form)) (u .priority) (o .priority) high (leb-true _ _ d)
@@ -59,12 +66,10 @@ module _ (u o : Op) (low : 1 ≤ u .priority) (high : 1 ≤ o .priority) (levels
   chosen-takes false false d e = outside (leftSide (o .form)) (rightSide (u .form)) (u .priority) (o .priority) (leb-false _ _ d) (leb-false _ _ e)
 
   takes-chosen : (v : Taker) → Takes u o v → v ≡ taker u o
-  takes-chosen Left h =
-      sym (ap (λ (l : Bool). chosen l (leb (o .priority) (rightLimit u))) (le-leb (u .priority) (leftLimit o) (within-back (leftSide (o .form)) (u .priority) (o .priority) h)))
+  takes-chosen Left h = sym (taker-left u o (within-back (leftSide (o .form)) (u .priority) (o .priority) h))
   takes-chosen Right h =
       let inside = within-back (rightSide (u .form)) (o .priority) (u .priority) (turned-back (rightSide (u .form)) (o .priority) (u .priority) h) in
-      let past = below (u .priority) (leftLimit o) (λ k. apart (rightSide (u .form)) (leftSide (o .form)) (u .priority) (o .priority) low high levels k inside) in
-      sym (ap (λ (l : Bool). chosen l (leb (o .priority) (rightLimit u))) (lt-leb (u .priority) (leftLimit o) past) ∙ ap (chosen false) (le-leb (o .priority) (rightLimit u) inside))
+      sym (taker-right u o (λ k. apart (rightSide (u .form)) (leftSide (o .form)) (u .priority) (o .priority) low high levels k inside) inside)
   takes-chosen Neither (e, x, y) =
       let left = outside-back (leftSide (o .form)) (u .priority) (o .priority) high e x in
       let right = outside-back (rightSide (u .form)) (o .priority) (u .priority) low (sym e) y in

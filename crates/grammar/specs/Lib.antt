@@ -1,4 +1,5 @@
 pub mod Lawful
+pub mod Machine
 pub mod Neighbours
 pub mod Reading
 pub mod Trees

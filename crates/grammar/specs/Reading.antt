@@ -57,3 +57,11 @@ module _ (t : Table) where
   pub record Reads (text : List ℕ) (tree : Tree) : Type 0 where
     pub bytes : All LawfulByte text
     pub reading : ReadsTokens (lexemesOf text) tree
+
+-- The laws, for every lawful table: a list of tokens has at most one lawful bracketed tree, so a text reads as at
+-- most one tree.
+abbrev pub AtMostOneBracketedTree : Type 0
+AtMostOneBracketedTree = (t : Table) → LawfulTable t → (a b : Bracketed) → Lawful t a → Lawful t b → lexemes t a ≡ lexemes t b → a ≡ b
+
+abbrev pub AtMostOneTree : Type 0
+AtMostOneTree = (t : Table) → LawfulTable t → (text : List ℕ) (x y : Tree) → Reads t text x → Reads t text y → x ≡ y

@@ -5,4 +5,7 @@ mod theorems;
 
 pub use due::Due;
 pub use taker::Taker;
+pub use theorems::at_most_one_bracketed_tree;
+pub use theorems::at_most_one_tree;
+pub use theorems::machine_finds_all;
 pub use theorems::neighbours_decided;

@@ -1,10 +1,33 @@
 // The theorems, each asked for by the contract of a function that does nothing else.
+ghost use Rattle.grammar.specs.Machine.{MachineFindsAll};
 ghost use Rattle.grammar.specs.Neighbours.{NeighboursDecided};
+ghost use Rattle.grammar.specs.Reading.{AtMostOneBracketedTree, AtMostOneTree};
 
 // Of two neighbouring operators the one with the smaller priority takes the operand between them, and
 // between equals their types decide.
 pub fn neighbours_decided() -> u8
     ensures { λ _. ⌜ NeighboursDecided ⌝ }
+{
+    0
+}
+
+// The reading machine finds every lawful bracketed tree from its tokens.
+pub fn machine_finds_all() -> u8
+    ensures { λ _. ⌜ MachineFindsAll ⌝ }
+{
+    0
+}
+
+// Tokens have at most one lawful bracketed tree.
+pub fn at_most_one_bracketed_tree() -> u8
+    ensures { λ _. ⌜ AtMostOneBracketedTree ⌝ }
+{
+    0
+}
+
+// A text reads as at most one tree.
+pub fn at_most_one_tree() -> u8
+    ensures { λ _. ⌜ AtMostOneTree ⌝ }
 {
     0
 }

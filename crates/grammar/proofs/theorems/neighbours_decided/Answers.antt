@@ -1,5 +1,5 @@
-use Rattle.grammar.proofs.Takers as proof
+use Rattle.grammar.proofs.Takers.{neighbours-decided}
 use Rattle.grammar.proofs.theorems.neighbours_decided.Needs as need
 
 pub returns : need.returns
-returns c = proof.neighbours-decided
+returns c = neighbours-decided
