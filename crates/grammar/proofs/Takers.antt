@@ -27,6 +27,22 @@ pub taker-right : (u o : Op) → (u .priority ≤ leftLimit o → ⊥) → o .pr
 taker-right u o n h =
     ap (λ (l : Bool). chosen l (leb (o .priority) (rightLimit u))) (lt-leb (u .priority) (leftLimit o) (below (u .priority) (leftLimit o) n)) ∙ ap (chosen false) (le-leb (o .priority) (rightLimit u) h)
 
+by-left : (l r : Bool) → chosen l r ≡ Left → l ≡ true
+by-left true r e = refl
+by-left false true e = cc
+by-left false false e = cc
+
+by-right : (l r : Bool) → chosen l r ≡ Right → r ≡ true
+by-right true r e = cc
+by-right false true e = refl
+by-right false false e = cc
+
+pub left-taker : (u o : Op) → taker u o ≡ Left → u .priority ≤ leftLimit o
+left-taker u o e = leb-true (u .priority) (leftLimit o) (by-left (leb (u .priority) (leftLimit o)) (leb (o .priority) (rightLimit u)) e)
+
+pub right-taker : (u o : Op) → taker u o ≡ Right → o .priority ≤ rightLimit u
+right-taker u o e = leb-true (o .priority) (rightLimit u) (by-right (leb (u .priority) (leftLimit o)) (leb (o .priority) (rightLimit u)) e)
+
 -- p is smaller than q, or equal to it at a side with y
 abbrev Tighter : Side → ℕ → ℕ → Type 0
 Tighter s p q = (p < q) ⊎ ((p ≡ q) × (s ≡ Y))

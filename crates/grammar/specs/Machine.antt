@@ -5,6 +5,7 @@ use mathlib.Core.List.{List, [], _∷_}
 use Prim.Native.Nat.{ℕ}
 use lib.Dec.{leb}
 use lib.ListN.{length}
+use Rattle.std.specs.shelf.Lists.{All}
 use Rattle.std.specs.declared.option.Option.{Option}
 use Rattle.std.specs.declared.option.Option.the-variants.{None, Some}
 use Rattle.std.specs.Options.{isSome}
@@ -22,7 +23,7 @@ use Rattle.grammar.specs.Trees.Bracketed.{named, pair, prefixed, postfixed, in
 use Rattle.grammar.specs.Weights.{fixityIn, operatorIn}
 use Rattle.grammar.specs.Lawful.{Lawful}
 use Rattle.grammar.specs.Neighbours.{taker}
-use Rattle.grammar.specs.Reading.{lexemes}
+use Rattle.grammar.specs.Reading.{Formed, lexemes}
 
 -- an operator that waits for its right operand: a prefix one, or an infix one with its left operand
 pub data Pending : Type 0 where
@@ -133,3 +134,7 @@ module _ (t : Table) where
 -- The laws. Every lawful bracketed tree is found from its tokens.
 abbrev pub MachineFindsAll : Type 0
 MachineFindsAll = (t : Table) → LawfulTable t → (b : Bracketed) → Lawful t b → accepted t (lexemes t b) ≡ Some b
+
+-- What is found from well-formed tokens is lawful, and has just those tokens.
+abbrev pub MachineFindsOnlyLawful : Type 0
+MachineFindsOnlyLawful = (t : Table) → LawfulTable t → (xs : List Lexeme) → All Formed xs → (b : Bracketed) → accepted t xs ≡ Some b → Lawful t b × (lexemes t b ≡ xs)

@@ -10,7 +10,7 @@ use Rattle.tokens.specs.declared.token.TokenKind.the-variants.{Word, Symbol, Op
 use Rattle.tokens.specs.Bytes.{isWordByte}
 use Rattle.tokens.specs.Limits.{Lawful as LawfulByte}
 use Rattle.tokens.specs.Spacing.{lexemesOf}
-use Rattle.tokens.specs.Tokens.{Lexeme}
+use Rattle.tokens.specs.Tokens.{Lexeme, WellFormed}
 use Rattle.notation.specs.Tables.{Table, LawfulTable}
 use Rattle.grammar.specs.Trees.{Tree, Bracketed, erase}
 use Rattle.grammar.specs.Trees.Bracketed.{named, pair, prefixed, postfixed, infixed}
@@ -33,6 +33,10 @@ kindOfSpelling (b ∷ bs) = cond (isWordByte b) Word Symbol
 
 abbrev pub sign : List ℕ → Lexeme
 sign s = record { kind = kindOfSpelling s; bytes = s }
+
+-- the token is well formed: it is its own one token where it is cut
+abbrev pub Formed : Lexeme → Type 0
+Formed x = WellFormed (x .kind) (x .bytes)
 
 module _ (t : Table) where
   abbrev pub signOf : ℕ → Lexeme

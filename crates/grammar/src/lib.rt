@@ -8,4 +8,5 @@ pub use taker::Taker;
 pub use theorems::at_most_one_bracketed_tree;
 pub use theorems::at_most_one_tree;
 pub use theorems::machine_finds_all;
+pub use theorems::machine_finds_only_lawful;
 pub use theorems::neighbours_decided;

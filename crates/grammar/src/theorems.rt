@@ -1,5 +1,5 @@
 // The theorems, each asked for by the contract of a function that does nothing else.
-ghost use Rattle.grammar.specs.Machine.{MachineFindsAll};
+ghost use Rattle.grammar.specs.Machine.{MachineFindsAll, MachineFindsOnlyLawful};
 ghost use Rattle.grammar.specs.Neighbours.{NeighboursDecided};
 ghost use Rattle.grammar.specs.Reading.{AtMostOneBracketedTree, AtMostOneTree};
 
@@ -14,6 +14,13 @@ pub fn neighbours_decided() -> u8
 // The reading machine finds every lawful bracketed tree from its tokens.
 pub fn machine_finds_all() -> u8
     ensures { λ _. ⌜ MachineFindsAll ⌝ }
+{
+    0
+}
+
+// What it finds from well-formed tokens is lawful, and has just those tokens.
+pub fn machine_finds_only_lawful() -> u8
+    ensures { λ _. ⌜ MachineFindsOnlyLawful ⌝ }
 {
     0
 }
