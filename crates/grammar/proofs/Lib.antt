@@ -3,4 +3,6 @@ pub mod Signs
 pub mod Soundness
 pub mod Tables
 pub mod Takers
+pub mod Texts
 pub mod Uniqueness
+pub mod Viability

@@ -1,3 +1,4 @@
+pub mod Beginnings
 pub mod Lawful
 pub mod Machine
 pub mod Neighbours

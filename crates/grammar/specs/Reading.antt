@@ -9,7 +9,7 @@ use Rattle.tokens.specs.declared.token.TokenKind.{TokenKind}
 use Rattle.tokens.specs.declared.token.TokenKind.the-variants.{Word, Symbol, Open, Close}
 use Rattle.tokens.specs.Bytes.{isWordByte}
 use Rattle.tokens.specs.Limits.{Lawful as LawfulByte}
-use Rattle.tokens.specs.Spacing.{lexemesOf}
+use Rattle.tokens.specs.Spacing.{spaced, lexemesOf}
 use Rattle.tokens.specs.Tokens.{Lexeme, WellFormed}
 use Rattle.notation.specs.Tables.{Table, LawfulTable}
 use Rattle.grammar.specs.Trees.{Tree, Bracketed, erase}
@@ -69,3 +69,12 @@ AtMostOneBracketedTree = (t : Table) → LawfulTable t → (a b : Bracketed) →
 
 abbrev pub AtMostOneTree : Type 0
 AtMostOneTree = (t : Table) → LawfulTable t → (text : List ℕ) (x y : Tree) → Reads t text x → Reads t text y → x ≡ y
+
+-- Tokens that read are those of a text that reads: they are well formed, and their spaced text has them and reads.
+pub record Spaces (t : Table) (xs : List Lexeme) (tree : Tree) : Type 0 where
+  pub formed : All Formed xs
+  pub cut : lexemesOf (spaced xs) ≡ xs
+  pub reads : Reads t (spaced xs) tree
+
+abbrev pub SpacedTokensRead : Type 0
+SpacedTokensRead = (t : Table) → LawfulTable t → (xs : List Lexeme) (tree : Tree) → ReadsTokens t xs tree → Spaces t xs tree

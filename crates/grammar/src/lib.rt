@@ -10,3 +10,7 @@ pub use theorems::at_most_one_tree;
 pub use theorems::machine_finds_all;
 pub use theorems::machine_finds_only_lawful;
 pub use theorems::neighbours_decided;
+pub use theorems::refused_is_dead;
+pub use theorems::spaced_tokens_read;
+pub use theorems::texts_live_as_tokens;
+pub use theorems::unrefused_is_live;

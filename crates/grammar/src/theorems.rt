@@ -1,7 +1,8 @@
 // The theorems, each asked for by the contract of a function that does nothing else.
+ghost use Rattle.grammar.specs.Beginnings.{RefusedIsDead, TextsLiveAsTokens, UnrefusedIsLive};
 ghost use Rattle.grammar.specs.Machine.{MachineFindsAll, MachineFindsOnlyLawful};
 ghost use Rattle.grammar.specs.Neighbours.{NeighboursDecided};
-ghost use Rattle.grammar.specs.Reading.{AtMostOneBracketedTree, AtMostOneTree};
+ghost use Rattle.grammar.specs.Reading.{AtMostOneBracketedTree, AtMostOneTree, SpacedTokensRead};
 
 // Of two neighbouring operators the one with the smaller priority takes the operand between them, and
 // between equals their types decide.
@@ -35,6 +36,34 @@ pub fn at_most_one_bracketed_tree() -> u8
 // A text reads as at most one tree.
 pub fn at_most_one_tree() -> u8
     ensures { λ _. ⌜ AtMostOneTree ⌝ }
+{
+    0
+}
+
+// Tokens that read are well formed, and their spaced text has them and reads.
+pub fn spaced_tokens_read() -> u8
+    ensures { λ _. ⌜ SpacedTokensRead ⌝ }
+{
+    0
+}
+
+// Some text that begins with these tokens reads exactly if some list of tokens does.
+pub fn texts_live_as_tokens() -> u8
+    ensures { λ _. ⌜ TextsLiveAsTokens ⌝ }
+{
+    0
+}
+
+// Where the machine has refused, no text that begins so reads.
+pub fn refused_is_dead() -> u8
+    ensures { λ _. ⌜ RefusedIsDead ⌝ }
+{
+    0
+}
+
+// Where it has not, some text that begins so reads.
+pub fn unrefused_is_live() -> u8
+    ensures { λ _. ⌜ UnrefusedIsLive ⌝ }
 {
     0
 }
