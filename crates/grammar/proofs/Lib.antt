@@ -1,8 +1,12 @@
 pub mod Completeness
+pub mod Judging
+pub mod Partners
 pub mod Signs
 pub mod Soundness
+pub mod Stated
 pub mod Tables
 pub mod Takers
 pub mod Texts
 pub mod Uniqueness
+pub mod Verdicts
 pub mod Viability

@@ -1,7 +1,10 @@
 pub mod Beginnings
+pub mod Dues
 pub mod Lawful
 pub mod Machine
 pub mod Neighbours
 pub mod Reading
+pub mod Refusals
 pub mod Trees
+pub mod Verdicts
 pub mod Weights

@@ -1,8 +1,11 @@
 // The theorems, each asked for by the contract of a function that does nothing else.
 ghost use Rattle.grammar.specs.Beginnings.{RefusedIsDead, TextsLiveAsTokens, UnrefusedIsLive};
+ghost use Rattle.grammar.specs.Dues.{MachineTellsDue};
 ghost use Rattle.grammar.specs.Machine.{MachineFindsAll, MachineFindsOnlyLawful};
 ghost use Rattle.grammar.specs.Neighbours.{NeighboursDecided};
 ghost use Rattle.grammar.specs.Reading.{AtMostOneBracketedTree, AtMostOneTree, SpacedTokensRead};
+ghost use Rattle.grammar.specs.Refusals.{OneAnswer, UnmatchedIsUnmatched};
+ghost use Rattle.grammar.specs.Verdicts.{OneVerdict};
 
 // Of two neighbouring operators the one with the smaller priority takes the operand between them, and
 // between equals their types decide.
@@ -64,6 +67,34 @@ pub fn refused_is_dead() -> u8
 // Where it has not, some text that begins so reads.
 pub fn unrefused_is_live() -> u8
     ensures { λ _. ⌜ UnrefusedIsLive ⌝ }
+{
+    0
+}
+
+// Where the machine has not refused, its state tells what is due.
+pub fn machine_tells_due() -> u8
+    ensures { λ _. ⌜ MachineTellsDue ⌝ }
+{
+    0
+}
+
+// A text reads as a tree, or fails at one token, or fails at its end, and only one of these.
+pub fn one_verdict() -> u8
+    ensures { λ _. ⌜ OneVerdict ⌝ }
+{
+    0
+}
+
+// A text has one answer: its tree, or one fault at one place.
+pub fn one_answer() -> u8
+    ensures { λ _. ⌜ OneAnswer ⌝ }
+{
+    0
+}
+
+// A bracket fault is told exactly where a bracket has no partner.
+pub fn unmatched_is_unmatched() -> u8
+    ensures { λ _. ⌜ UnmatchedIsUnmatched ⌝ }
 {
     0
 }
