@@ -1,4 +1,5 @@
 pub mod Completeness
+pub mod Fewer
 pub mod Judging
 pub mod Partners
 pub mod Signs
@@ -10,3 +11,4 @@ pub mod Texts
 pub mod Uniqueness
 pub mod Verdicts
 pub mod Viability
+pub mod Writings

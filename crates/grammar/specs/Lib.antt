@@ -8,3 +8,4 @@ pub mod Refusals
 pub mod Trees
 pub mod Verdicts
 pub mod Weights
+pub mod Writing

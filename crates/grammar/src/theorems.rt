@@ -6,6 +6,7 @@ ghost use Rattle.grammar.specs.Neighbours.{NeighboursDecided};
 ghost use Rattle.grammar.specs.Reading.{AtMostOneBracketedTree, AtMostOneTree, SpacedTokensRead};
 ghost use Rattle.grammar.specs.Refusals.{OneAnswer, UnmatchedIsUnmatched};
 ghost use Rattle.grammar.specs.Verdicts.{OneVerdict};
+ghost use Rattle.grammar.specs.Writing.{OneFewest, WritableIsReadable, WritesFewest};
 
 // Of two neighbouring operators the one with the smaller priority takes the operand between them, and
 // between equals their types decide.
@@ -95,6 +96,27 @@ pub fn one_answer() -> u8
 // A bracket fault is told exactly where a bracket has no partner.
 pub fn unmatched_is_unmatched() -> u8
     ensures { λ _. ⌜ UnmatchedIsUnmatched ⌝ }
+{
+    0
+}
+
+// What the writing rule writes for a tree reads as that tree, with the fewest pairs of brackets.
+pub fn writes_fewest() -> u8
+    ensures { λ _. ⌜ WritesFewest ⌝ }
+{
+    0
+}
+
+// The fewest pairs for a tree are one number.
+pub fn one_fewest() -> u8
+    ensures { λ _. ⌜ OneFewest ⌝ }
+{
+    0
+}
+
+// A tree can be written exactly if some text reads as it.
+pub fn writable_is_readable() -> u8
+    ensures { λ _. ⌜ WritableIsReadable ⌝ }
 {
     0
 }
