@@ -2,6 +2,8 @@ pub mod Completeness
 pub mod Fewer
 pub mod Judging
 pub mod Partners
+pub mod Rows
+pub mod Shown
 pub mod Signs
 pub mod Soundness
 pub mod Stated

@@ -7,6 +7,7 @@ pub use due::Due;
 pub use taker::Taker;
 pub use theorems::at_most_one_bracketed_tree;
 pub use theorems::at_most_one_tree;
+pub use theorems::examples_hold;
 pub use theorems::machine_finds_all;
 pub use theorems::machine_finds_only_lawful;
 pub use theorems::machine_tells_due;

@@ -1,6 +1,7 @@
 // The theorems, each asked for by the contract of a function that does nothing else.
 ghost use Rattle.grammar.specs.Beginnings.{RefusedIsDead, TextsLiveAsTokens, UnrefusedIsLive};
 ghost use Rattle.grammar.specs.Dues.{MachineTellsDue};
+ghost use Rattle.grammar.specs.Examples.{ExamplesHold};
 ghost use Rattle.grammar.specs.Machine.{MachineFindsAll, MachineFindsOnlyLawful};
 ghost use Rattle.grammar.specs.Neighbours.{NeighboursDecided};
 ghost use Rattle.grammar.specs.Reading.{AtMostOneBracketedTree, AtMostOneTree, SpacedTokensRead};
@@ -117,6 +118,13 @@ pub fn one_fewest() -> u8
 // A tree can be written exactly if some text reads as it.
 pub fn writable_is_readable() -> u8
     ensures { λ _. ⌜ WritableIsReadable ⌝ }
+{
+    0
+}
+
+// The worked examples of reading, refusing and writing hold.
+pub fn examples_hold() -> u8
+    ensures { λ _. ⌜ ExamplesHold ⌝ }
 {
     0
 }
