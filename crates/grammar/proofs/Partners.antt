@@ -13,7 +13,6 @@ use Rattle.tokens.specs.declared.token.TokenKind.the-variants.{Word, Symbol, Op
 use Rattle.tokens.specs.Limits.{Lawful as LawfulByte}
 use Rattle.tokens.specs.Spacing.{lexemesOf}
 use Rattle.tokens.specs.Tokens.{Lexeme, Placed, lexeme, tokensOf}
-use Rattle.tokens.proofs.Spaces.{formed}
 use Rattle.notation.specs.declared.form.Position.the-variants.{Before, After}
 use Rattle.notation.specs.Operators.{Fixity}
 use Rattle.notation.specs.Operators.Fixity.{prefix, postfix, between}
@@ -25,18 +24,16 @@ use Rattle.grammar.specs.declared.taker.Taker.the-variants.{Left, Right, Neith
 use Rattle.grammar.specs.Trees.{Tree, Bracketed, erase}
 use Rattle.grammar.specs.Weights.{fixityIn, operatorIn}
 use Rattle.grammar.specs.Neighbours.{taker}
-use Rattle.grammar.specs.Reading.{Reads}
 use Rattle.grammar.specs.Machine.{Frame, State, start, functionOf, completed, closed, ended, standing, decided, settled, isName, begun, continued, operandStep, operatorStep, step, run, outcome, accepted}
 use Rattle.grammar.specs.Machine.Frame.{bracket, pending}
 use Rattle.grammar.specs.Machine.State.{operandDue, operatorDue, refused}
-use Rattle.grammar.specs.Beginnings.{Live, Dead}
+use Rattle.grammar.specs.Beginnings.{Live}
 use Rattle.grammar.specs.Dues.{dueAfter, Tells}
 use Rattle.grammar.specs.Verdicts.{FailsAt, FailsAtEnd}
 use Rattle.grammar.specs.Refusals.{openBehind, openFrom, openAfter, UnmatchedIsUnmatched}
-use Rattle.grammar.proofs.Soundness.{finds-only}
 use Rattle.grammar.proofs.Viability.{run-append, refused-is-dead}
 use Rattle.grammar.proofs.Stated.{machine-tells-due}
-use Rattle.grammar.proofs.Judging.{front-live}
+use Rattle.grammar.proofs.Judging.{front-live, found-reads}
 
 -- the brackets that are open on a stack
 abbrev brackets : List Frame → ℕ
@@ -148,14 +145,10 @@ module _ (t : Table) (lawful : LawfulTable t) (text : List ℕ) where
       close-unmatched t (run t start (map lexeme front)) (dueAfter t (map lexeme front)) (openAfter (map lexeme front)) (lexeme x) (λ e. refused-is-dead t lawful (map lexeme front) e (h .live))
       (machine-tells-due t lawful (map lexeme front)) (run-opens t (map lexeme front) start 0 refl) op kind (dead-refused front x h)
 
-  found-reads : All LawfulByte text → (b : Bracketed) → accepted t (lexemesOf text) ≡ Some b → Reads t text (erase b)
-  found-reads bytes b e =
-      let (law, same) = finds-only t (lexemesOf text) (formed text) b e in record { bytes = bytes; reading = record { bracketed = b; lawful = law; tokens = same; erased = refl } }
-
   end-at : All LawfulByte text → FailsAtEnd t text → dueAfter t (lexemesOf text) ≡ Operator → 0 < openAfter (lexemesOf text)
   end-at bytes h op =
       end-unmatched t (run t start (lexemesOf text)) (dueAfter t (lexemesOf text)) (openAfter (lexemesOf text)) (λ e. refused-is-dead t lawful (lexemesOf text) e (h .live))
-      (machine-tells-due t lawful (lexemesOf text)) (run-opens t (lexemesOf text) start 0 refl) op (none-or (accepted t (lexemesOf text)) (λ b e. h .unread (erase b) (found-reads bytes b e)))
+      (machine-tells-due t lawful (lexemesOf text)) (run-opens t (lexemesOf text) start 0 refl) op (none-or (accepted t (lexemesOf text)) (λ b e. h .unread (erase b) (found-reads t lawful text bytes b e)))
 
 pub unmatched-is-unmatched : UnmatchedIsUnmatched
 unmatched-is-unmatched t lawful text = (close-at t lawful text, end-at t lawful text)

@@ -90,6 +90,13 @@ module _ (t : Table) (lawful : LawfulTable t) where
       let h = present t f x e in
       subst (λ (o : Op). WellFormed (kindOfSpelling (o .spelling)) (o .spelling)) (sym (h .is)) (spelling-formed (h .op .spelling) (lawful .each f (h .op) (h .has) .spelling))
 
+  some-at : (f : ℕ) (o : Option Op) → t f ≡ o → 1 ≤ orAbsent o .priority
+  some-at f None e = omega arith
+  some-at f (Some o) e = lawful .each f o e .low
+
+  pub some-priority : (f : ℕ) → 1 ≤ operatorIn t f .priority
+  some-priority f = some-at f (t f) refl
+
   -- both neighbours may never take the operand between them
   apart-at : (f g : ℕ) (u o : Option Op) → t f ≡ u → t g ≡ o → orAbsent u .priority ≤ leftLimit (orAbsent o) → orAbsent o .priority ≤ rightLimit (orAbsent u) → ⊥
   apart-at f g None None d e h k = omega arith

@@ -5,7 +5,9 @@ use mathlib.Core.Bool.{Bool, true, false}
 use Prim.Native.Nat.{ℕ, _≤_, _<_}
 use native.Mathlib.Omega.{arith}
 use lib.Dec.{leb}
+use Rattle.std.specs.shelf.Lists.{All}
 use Rattle.std.specs.declared.option.Option.the-variants.{Some}
+use Rattle.std.proofs.shelf.Elements.{all-weaker}
 use Rattle.std.proofs.shelf.Tests.{leb-true, leb-false, le-leb, lt-leb, cases-lt}
 use Rattle.notation.specs.declared.form.Side.{Side}
 use Rattle.notation.specs.declared.form.Side.the-variants.{X, Y}
@@ -13,9 +15,12 @@ use Rattle.notation.specs.Operators.{Op, leftSide, rightSide, limit}
 use Rattle.notation.specs.Tables.{Table, LawfulTable}
 use Rattle.grammar.specs.declared.taker.Taker.{Taker}
 use Rattle.grammar.specs.declared.taker.Taker.the-variants.{Left, Right, Neither}
-use Rattle.grammar.specs.Weights.{leftLimit, rightLimit}
-use Rattle.grammar.specs.Neighbours.{chosen, taker, Takes, NeighboursDecided}
-use Rattle.grammar.proofs.Tables.{apart}
+use Rattle.grammar.specs.Trees.{Bracketed}
+use Rattle.grammar.specs.Trees.Bracketed.{named, pair, prefixed, postfixed, infixed}
+use Rattle.grammar.specs.Weights.{operatorIn, leftLimit, rightLimit, leftWeight, rightWeight, AdmitsLeft, AdmitsRight}
+use Rattle.grammar.specs.Lawful.{Lawful}
+use Rattle.grammar.specs.Neighbours.{chosen, taker, Takes, NeighboursDecided, downLeft, downRight, LeftTook, RightTook, DecidesSo, TreesDecideSo}
+use Rattle.grammar.proofs.Tables.{apart, some-priority}
 
 below : (p q : ℕ) → (p ≤ q → ⊥) → q < p
 below p q h = omega arith
@@ -97,3 +102,41 @@ neighbours-decided t lawful f g u o d e =
     let high = lawful .each g o e .low in
     let levels = lawful .levels f g u o d e in
     record { is = chosen-takes u o low high levels (leb (u .priority) (leftLimit o)) (leb (o .priority) (rightLimit u)) refl refl; only = takes-chosen u o low high levels }
+
+-- In a lawful tree the operators down a side are within the weight there.
+module _ (t : Table) where
+  down-left : (b : Bracketed) (n : ℕ) → leftWeight t b ≤ n → All (λ g. operatorIn t g .priority ≤ n) (downLeft b)
+  down-left (named w) n h = tt
+  down-left (pair b) n h = tt
+  down-left (prefixed f b) n h = tt
+  down-left (postfixed f a) n h = (omega arith, down-left a n (omega arith))
+  down-left (infixed f a b) n h = (omega arith, down-left a n (omega arith))
+
+  down-right : (b : Bracketed) (n : ℕ) → rightWeight t b ≤ n → All (λ g. operatorIn t g .priority ≤ n) (downRight b)
+  down-right (named w) n h = tt
+  down-right (pair b) n h = tt
+  down-right (prefixed f b) n h = (omega arith, down-right b n (omega arith))
+  down-right (postfixed f a) n h = tt
+  down-right (infixed f a b) n h = (omega arith, down-right b n (omega arith))
+
+  module _ (lawful : LawfulTable t) where
+    left-took : (f : ℕ) (a : Bracketed) → AdmitsLeft t f a → LeftTook t f a
+    left-took f a h =
+        let o = operatorIn t f in
+        all-weaker (λ g. operatorIn t g .priority ≤ leftLimit o) (λ g. Takes (operatorIn t g) o Left) (λ g. within (leftSide (o .form)) (operatorIn t g .priority) (o .priority) (some-priority t lawful f)) (downRight a) (down-right a (leftLimit o) h)
+
+    right-took : (f : ℕ) (b : Bracketed) → AdmitsRight t f b → RightTook t f b
+    right-took f b h =
+        let u = operatorIn t f in
+        all-weaker (λ g. operatorIn t g .priority ≤ rightLimit u) (λ g. Takes u (operatorIn t g) Right)
+        (λ g k. turned (rightSide (u .form)) (operatorIn t g .priority) (u .priority) (within (rightSide (u .form)) (operatorIn t g .priority) (u .priority) (some-priority t lawful f) k)) (downLeft b) (down-left b (rightLimit u) h)
+
+    decides-so : (b : Bracketed) → Lawful t b → DecidesSo t b
+    decides-so (named w) l = tt
+    decides-so (pair b) l = decides-so b l
+    decides-so (prefixed f b) (x, a, l) = (right-took f b a, decides-so b l)
+    decides-so (postfixed f b) (x, a, l) = (left-took f b a, decides-so b l)
+    decides-so (infixed f b c) (x, a, d, l, m) = (left-took f b a, right-took f c d, decides-so b l, decides-so c m)
+
+pub trees-decide-so : TreesDecideSo
+trees-decide-so t lawful = decides-so t lawful

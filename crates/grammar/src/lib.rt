@@ -18,6 +18,7 @@ pub use theorems::one_verdict;
 pub use theorems::refused_is_dead;
 pub use theorems::spaced_tokens_read;
 pub use theorems::texts_live_as_tokens;
+pub use theorems::trees_decide_so;
 pub use theorems::unmatched_is_unmatched;
 pub use theorems::unrefused_is_live;
 pub use theorems::writable_is_readable;

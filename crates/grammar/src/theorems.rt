@@ -3,7 +3,7 @@ ghost use Rattle.grammar.specs.Beginnings.{RefusedIsDead, TextsLiveAsTokens, U
 ghost use Rattle.grammar.specs.Dues.{MachineTellsDue};
 ghost use Rattle.grammar.specs.Examples.{ExamplesHold};
 ghost use Rattle.grammar.specs.Machine.{MachineFindsAll, MachineFindsOnlyLawful};
-ghost use Rattle.grammar.specs.Neighbours.{NeighboursDecided};
+ghost use Rattle.grammar.specs.Neighbours.{NeighboursDecided, TreesDecideSo};
 ghost use Rattle.grammar.specs.Reading.{AtMostOneBracketedTree, AtMostOneTree, SpacedTokensRead};
 ghost use Rattle.grammar.specs.Refusals.{OneAnswer, UnmatchedIsUnmatched};
 ghost use Rattle.grammar.specs.Verdicts.{OneVerdict};
@@ -13,6 +13,13 @@ ghost use Rattle.grammar.specs.Writing.{OneFewest, WritableIsReadable, WritesF
 // between equals their types decide.
 pub fn neighbours_decided() -> u8
     ensures { λ _. ⌜ NeighboursDecided ⌝ }
+{
+    0
+}
+
+// Every lawful bracketed tree decides so between its neighbours.
+pub fn trees_decide_so() -> u8
+    ensures { λ _. ⌜ TreesDecideSo ⌝ }
 {
     0
 }
