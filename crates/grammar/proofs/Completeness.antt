@@ -23,10 +23,10 @@ use Rattle.grammar.specs.Trees.Bracketed.{named, pair, prefixed, postfixed, in
 use Rattle.grammar.specs.Weights.{fixityIn, operatorIn, leftLimit, rightLimit, leftWeight, rightWeight}
 use Rattle.grammar.specs.Lawful.{Name, Lawful}
 use Rattle.grammar.specs.Reading.{word, opening, closing, kindOfSpelling, signOf, lexemes}
-use Rattle.grammar.specs.Machine.{Frame, State, start, functionOf, completed, closed, ended, standing, decided, settled, isName, begun, continued, operandStep, operatorStep, step, run, outcome, accepted, MachineFindsAll}
+use Rattle.grammar.specs.Machine.{Frame, State, functionOf, completed, closed, ended, standing, decided, settled, isName, begun, continued, operandStep, operatorStep, step, run, outcome, accepted, MachineFindsAll}
 use Rattle.grammar.specs.Machine.Pending.{prefixing, infixing}
 use Rattle.grammar.specs.Machine.Frame.{bracket, pending}
-use Rattle.grammar.specs.Machine.State.{operandDue, operatorDue, refused}
+use Rattle.grammar.specs.Machine.State.{operandDue, operatorDue}
 use Rattle.grammar.proofs.Signs.{kind-cases}
 use Rattle.grammar.proofs.Tables.{sign-listed, never-both}
 use Rattle.grammar.proofs.Takers.{taker-left, taker-right}

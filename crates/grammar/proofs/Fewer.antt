@@ -1,20 +1,18 @@
 -- No lawful bracketed tree of a tree has fewer pairs than the written one.
-use mathlib.Core.Path.{_≡_, refl, sym, ap, subst, _∙_}
+use mathlib.Core.Path.{_≡_, refl, sym, subst}
 use mathlib.Core.Logic.{_⊎_, inl, inr, ⊎-elim}
 use mathlib.Core.Bool.{Bool, true, false}
-use Prim.Native.Nat.{ℕ, _+_, _≤_, _<_, max}
+use Prim.Native.Nat.{ℕ, _≤_, _<_}
 use native.Mathlib.Omega.{arith}
-use lib.Dec.{leb}
 use Rattle.std.specs.declared.option.Option.{Option}
-use Rattle.std.specs.declared.option.Option.the-variants.{Some}
-use Rattle.std.proofs.shelf.Tests.{leb-true, leb-false, cases-lt}
+use Rattle.std.proofs.shelf.Tests.{leb-false, cases-lt}
 use Rattle.notation.specs.Operators.{Fixity}
 use Rattle.notation.specs.Tables.{Table}
 use Rattle.grammar.specs.Trees.{Tree, Bracketed, erase, pairs}
 use Rattle.grammar.specs.Trees.Bracketed.{named, pair, prefixed, postfixed, infixed}
-use Rattle.grammar.specs.Weights.{operatorIn, leftLimit, rightLimit, leftWeight, rightWeight, AdmitsLeft, AdmitsRight, admitsLeft, admitsRight}
+use Rattle.grammar.specs.Weights.{leftWeight, rightWeight, AdmitsLeft, AdmitsRight, admitsLeft, admitsRight}
 use Rattle.grammar.specs.Lawful.{Lawful}
-use Rattle.grammar.specs.Writing.{paired, asLeft, asRight, writeOne, write}
+use Rattle.grammar.specs.Writing.{paired, writeOne, write}
 
 -- m is smaller, or equal with more to be said
 either : (m n : ℕ) {P : Type 0} → m ≤ n → (m ≡ n → P) → (m < n) ⊎ ((m ≡ n) × P)

@@ -14,7 +14,7 @@ use Rattle.tokens.proofs.Spaces.{formed}
 use Rattle.notation.specs.Tables.{Table, LawfulTable}
 use Rattle.grammar.specs.Trees.{Tree, Bracketed, erase}
 use Rattle.grammar.specs.Reading.{Formed, Reads}
-use Rattle.grammar.specs.Machine.{Frame, State, start, step, run, outcome, accepted}
+use Rattle.grammar.specs.Machine.{State, start, step, run, outcome, accepted}
 use Rattle.grammar.specs.Machine.State.{operandDue, operatorDue, refused}
 use Rattle.grammar.specs.Beginnings.{Live}
 use Rattle.grammar.specs.Verdicts.{Verdict, FailsAt, FailsAtEnd, Holds}

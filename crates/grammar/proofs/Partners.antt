@@ -1,7 +1,7 @@
 -- A bracket fault is told where a bracket has no partner.
 use mathlib.Core.Path.{_≡_, refl, sym, ap, subst, _∙_}
 use mathlib.Core.Bool.{Bool, true, false}
-use mathlib.Core.List.{List, [], _∷_, _++_, map, append-nil, append-assoc}
+use mathlib.Core.List.{List, [], _∷_, _++_, map, append-assoc}
 use Prim.Native.Nat.{ℕ, _+_, _-_, _<_}
 use native.Mathlib.Omega.{arith}
 use Rattle.std.specs.shelf.Lists.{All}
@@ -12,16 +12,16 @@ use Rattle.tokens.specs.declared.token.TokenKind.{TokenKind}
 use Rattle.tokens.specs.declared.token.TokenKind.the-variants.{Word, Symbol, Open, Close}
 use Rattle.tokens.specs.Limits.{Lawful as LawfulByte}
 use Rattle.tokens.specs.Spacing.{lexemesOf}
-use Rattle.tokens.specs.Tokens.{Lexeme, Placed, lexeme, tokensOf}
+use Rattle.tokens.specs.Tokens.{Lexeme, Placed, lexeme}
 use Rattle.notation.specs.declared.form.Position.the-variants.{Before, After}
 use Rattle.notation.specs.Operators.{Fixity}
 use Rattle.notation.specs.Operators.Fixity.{prefix, postfix, between}
 use Rattle.notation.specs.Tables.{Table, LawfulTable, listed}
 use Rattle.grammar.specs.declared.due.Due.{Due}
-use Rattle.grammar.specs.declared.due.Due.the-variants.{Operand, Operator}
+use Rattle.grammar.specs.declared.due.Due.the-variants.{Operator}
 use Rattle.grammar.specs.declared.taker.Taker.{Taker}
 use Rattle.grammar.specs.declared.taker.Taker.the-variants.{Left, Right, Neither}
-use Rattle.grammar.specs.Trees.{Tree, Bracketed, erase}
+use Rattle.grammar.specs.Trees.{Bracketed, erase}
 use Rattle.grammar.specs.Weights.{fixityIn, operatorIn}
 use Rattle.grammar.specs.Neighbours.{taker}
 use Rattle.grammar.specs.Machine.{Frame, State, start, functionOf, completed, closed, ended, standing, decided, settled, isName, begun, continued, operandStep, operatorStep, step, run, outcome, accepted}

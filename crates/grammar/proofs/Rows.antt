@@ -1,6 +1,6 @@
 -- A table given by rows is lawful if its rows pass a test, which computes.
 use mathlib.Core.Path.{_≡_, refl, sym, ap, subst, _∙_}
-use mathlib.Core.Logic.{_⊎_, inl, inr, ⊎-elim}
+use mathlib.Core.Logic.{inl, inr, ⊎-elim}
 use mathlib.Core.Bool.{Bool, true, false, cond, _&&_, _||_, not}
 use mathlib.Core.List.{List, [], _∷_}
 use Prim.Native.Nat.{ℕ}
@@ -17,13 +17,13 @@ use Rattle.std.proofs.shelf.Tests.{false≢true, both-ways, and-parts, and-from
 use Rattle.tokens.specs.declared.token.TokenKind.{TokenKind}
 use Rattle.tokens.specs.declared.token.TokenKind.the-variants.{Word, Symbol, Open, Close}
 use Rattle.tokens.specs.Bytes.{isDigit}
-use Rattle.tokens.specs.Tokens.{isWord, isSymbol, kindOf, WellFormed}
+use Rattle.tokens.specs.Tokens.{isWord, isSymbol, kindOf}
 use Rattle.notation.specs.declared.form.Position.{Position}
 use Rattle.notation.specs.declared.form.Position.the-variants.{Before, After}
 use Rattle.notation.specs.declared.form.Side.{Side}
 use Rattle.notation.specs.declared.form.Side.the-variants.{X, Y}
 use Rattle.notation.specs.Operators.{Op, positionOf, operandsOf, leftSide, rightSide, NoDigitFirst, Spelling}
-use Rattle.notation.specs.Tables.{Table, LawfulOp, Listed, LawfulTable, operandsOfFunction, samePosition}
+use Rattle.notation.specs.Tables.{LawfulOp, Listed, LawfulTable, operandsOfFunction, samePosition}
 use Rattle.grammar.specs.Rows.{Row, tableOf}
 
 -- a test of every element

@@ -3,7 +3,6 @@ use mathlib.Core.Path.{_≡_, refl, sym, ap, subst, _∙_}
 use mathlib.Core.Bool.{Bool, true, false, _&&_}
 use mathlib.Core.List.{List, [], _∷_}
 use Prim.Native.Nat.{ℕ}
-use native.Mathlib.Omega.{arith}
 use Rattle.std.specs.shelf.Lists.{All}
 use Rattle.std.specs.declared.result.Result.the-variants.{Err}
 use Rattle.std.proofs.shelf.Tests.{false≢true, and-parts}
@@ -17,14 +16,13 @@ use Rattle.tokens.specs.Limits.{Lawful as LawfulByte}
 use Rattle.tokens.specs.Spacing.{pairsOf}
 use Rattle.tokens.specs.Tokens.{kindOf, tokensFrom}
 use Rattle.notation.specs.Tables.{Table, LawfulTable, listed}
-use Rattle.grammar.specs.Trees.{Tree, pairs}
-use Rattle.grammar.specs.Reading.{kindOfSpelling, Reads}
+use Rattle.grammar.specs.Trees.{Tree}
+use Rattle.grammar.specs.Reading.{kindOfSpelling}
 use Rattle.grammar.specs.Machine.{isName}
-use Rattle.grammar.specs.Verdicts.{Verdict, Holds}
+use Rattle.grammar.specs.Verdicts.{Holds}
 use Rattle.grammar.specs.Verdicts.Verdict.{reads}
 use Rattle.grammar.specs.Refusals.{answer}
-use Rattle.grammar.specs.Rows.{tableOf}
-use Rattle.grammar.specs.Writing.{write, written, Fewest}
+use Rattle.grammar.specs.Writing.{written, Fewest}
 use Rattle.grammar.specs.Examples.{exampleRows, exampleTable, Shown, ExamplesHold}
 use Rattle.grammar.specs.Examples.Example.{readsAs, refusedWith, writtenAs}
 use Rattle.grammar.proofs.Judging.{judged, judged-holds}

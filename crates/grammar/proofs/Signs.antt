@@ -1,5 +1,5 @@
 -- What the well-formed tokens are: the two brackets, and spellings of the kind of their first byte. Assumes nothing.
-use mathlib.Core.Path.{_≡_, refl, sym, ap, subst, _∙_}
+use mathlib.Core.Path.{_≡_, refl, ap, subst}
 use mathlib.Core.Bool.{Bool, true, false, cond}
 use mathlib.Core.Logic.{_⊎_, inl, inr, ⊎-elim}
 use mathlib.Core.List.{List, [], _∷_}
@@ -7,13 +7,13 @@ use Prim.Native.Nat.{ℕ}
 use native.Mathlib.Omega.{arith}
 use lib.Chars.{codes}
 use lib.Dec.{eqb}
-use Rattle.std.specs.declared.option.Option.the-variants.{None, Some}
+use Rattle.std.specs.declared.option.Option.the-variants.{Some}
 use Rattle.std.proofs.shelf.Tests.{false≢true, cases-bool, or-cases, eqb-true}
 use Rattle.tokens.specs.declared.byte.ByteClass.the-variants as C
 use Rattle.tokens.specs.declared.token.TokenKind.{TokenKind}
 use Rattle.tokens.specs.declared.token.TokenKind.the-variants.{Word, Symbol, Open, Close}
 use Rattle.tokens.specs.Bytes.{isIn, isWordByte, isSymbolByte}
-use Rattle.tokens.specs.Tokens.{Lexeme, kindIn, kindOf, WellFormed}
+use Rattle.tokens.specs.Tokens.{kindIn, kindOf, WellFormed}
 use Rattle.grammar.specs.Reading.{kindOfSpelling}
 
 -- which test of a byte's class holds, by its kind

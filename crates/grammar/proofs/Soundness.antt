@@ -1,8 +1,8 @@
 -- What the machine finds is lawful and has the tokens that it was run on.
 use mathlib.Core.Path.{_≡_, refl, sym, ap, subst, _∙_}
 use mathlib.Core.Bool.{Bool, true, false, _&&_, not}
-use mathlib.Core.List.{List, [], _∷_, _++_, append-nil}
-use Prim.Native.Nat.{ℕ, _≤_, max}
+use mathlib.Core.List.{List, [], _∷_, append-nil}
+use Prim.Native.Nat.{ℕ, max}
 use native.Mathlib.Omega.{arith}
 use lib.Dec.{leb}
 use lib.ListN.{length}
@@ -15,17 +15,16 @@ use Rattle.tokens.specs.declared.token.TokenKind.{TokenKind}
 use Rattle.tokens.specs.declared.token.TokenKind.the-variants.{Word, Symbol, Open, Close}
 use Rattle.tokens.specs.Tokens.{Lexeme, WellFormed}
 use Rattle.notation.specs.declared.form.Position.the-variants.{Before, After}
-use Rattle.notation.specs.Operators.{Op, Fixity}
+use Rattle.notation.specs.Operators.{Fixity}
 use Rattle.notation.specs.Operators.Fixity.{prefix, postfix, between}
-use Rattle.notation.specs.Tables.{Table, LawfulTable, listed}
+use Rattle.notation.specs.Tables.{Table, listed}
 use Rattle.grammar.specs.declared.taker.Taker.{Taker}
 use Rattle.grammar.specs.declared.taker.Taker.the-variants.{Left, Right, Neither}
 use Rattle.grammar.specs.Trees.{Bracketed}
-use Rattle.grammar.specs.Trees.Bracketed.{named, pair, prefixed, postfixed, infixed}
-use Rattle.grammar.specs.Weights.{fixityIn, operatorIn, leftLimit, rightLimit, leftWeight, rightWeight, AdmitsLeft}
+use Rattle.grammar.specs.Weights.{fixityIn, operatorIn, leftWeight, rightWeight, AdmitsLeft}
 use Rattle.grammar.specs.Lawful.{Name, Lawful}
 use Rattle.grammar.specs.Reading.{word, opening, closing, kindOfSpelling, sign, Formed, signOf, lexemes}
-use Rattle.grammar.specs.Neighbours.{chosen, taker}
+use Rattle.grammar.specs.Neighbours.{taker}
 use Rattle.grammar.specs.Machine.{Pending, Frame, State, start, functionOf, completed, closed, ended, standing, decided, settled, isName, begun, continued, operandStep, operatorStep, step, run, outcome, accepted, MachineFindsOnlyLawful}
 use Rattle.grammar.specs.Machine.Pending.{prefixing, infixing}
 use Rattle.grammar.specs.Machine.Frame.{bracket, pending}

@@ -1,9 +1,8 @@
 -- The machine's state tells what is due.
-use mathlib.Core.Path.{_≡_, refl, sym, ap, subst, _∙_}
+use mathlib.Core.Path.{_≡_, refl, sym, ap, subst}
 use mathlib.Core.Bool.{Bool, true, false}
 use mathlib.Core.List.{List, [], _∷_}
 use Prim.Native.Nat.{ℕ}
-use native.Mathlib.Omega.{arith}
 use Rattle.std.specs.declared.option.Option.{Option}
 use Rattle.std.specs.declared.option.Option.the-variants.{None, Some}
 use Rattle.tokens.specs.declared.token.TokenKind.{TokenKind}
@@ -12,7 +11,7 @@ use Rattle.tokens.specs.Tokens.{Lexeme}
 use Rattle.notation.specs.declared.form.Position.the-variants.{Before, After}
 use Rattle.notation.specs.Operators.{Fixity}
 use Rattle.notation.specs.Operators.Fixity.{prefix, postfix, between}
-use Rattle.notation.specs.Tables.{Table, LawfulTable, listed}
+use Rattle.notation.specs.Tables.{Table, listed}
 use Rattle.grammar.specs.declared.due.Due.{Due}
 use Rattle.grammar.specs.declared.due.Due.the-variants.{Operand, Operator}
 use Rattle.grammar.specs.declared.taker.Taker.{Taker}

@@ -1,6 +1,6 @@
 -- Facts of a lawful table: what its operators are, where they are listed, and that a long word is a name.
 use mathlib.Core.Path.{_≡_, refl, sym, ap, subst, _∙_}
-use mathlib.Core.Logic.{_⊎_, inl, inr, ⊎-elim}
+use mathlib.Core.Logic.{⊎-elim}
 use mathlib.Core.List.{List}
 use Prim.Native.Nat.{ℕ, zero, suc, _≤_}
 use native.Mathlib.Omega.{arith}
@@ -12,14 +12,13 @@ use Rattle.std.specs.Options.{mapped}
 use Rattle.tokens.specs.declared.token.TokenKind.{TokenKind}
 use Rattle.tokens.specs.declared.token.TokenKind.the-variants as K
 use Rattle.tokens.specs.Tokens.{kindOf, WellFormed}
-use Rattle.notation.specs.declared.form.Form.{Form}
 use Rattle.notation.specs.declared.form.Position.{Position}
 use Rattle.notation.specs.declared.form.Position.the-variants.{Before, After}
 use Rattle.notation.specs.declared.form.Side.{Side}
 use Rattle.notation.specs.declared.form.Side.the-variants.{X, Y}
-use Rattle.notation.specs.Operators.{Op, Fixity, fixityOf, positionIn, leftSide, rightSide, limit, Spelling, NoDigitFirst}
+use Rattle.notation.specs.Operators.{Op, Fixity, fixityOf, positionIn, leftSide, rightSide, limit, Spelling}
 use Rattle.notation.specs.Operators.Fixity.{prefix, postfix, between}
-use Rattle.notation.specs.Tables.{Table, Listed, LawfulTable, listed}
+use Rattle.notation.specs.Tables.{Table, LawfulTable, listed}
 use Rattle.notation.proofs.Lookups.{listed-is, listed-none, is-listed}
 use Rattle.grammar.specs.Weights.{fixityIn, orAbsent, operatorIn, leftLimit, rightLimit}
 use Rattle.grammar.specs.Lawful.{Name}

@@ -1,5 +1,5 @@
 -- The tokens of a lawful bracketed tree are well formed, so their spaced text has them and reads.
-use mathlib.Core.Path.{_≡_, refl, sym, ap, subst, _∙_}
+use mathlib.Core.Path.{_≡_, refl, sym, subst}
 use mathlib.Core.Logic.{inr}
 use mathlib.Core.Bool.{Bool, true, false, cond}
 use mathlib.Core.List.{List, [], _∷_, _++_}
@@ -11,10 +11,9 @@ use Rattle.std.specs.declared.option.Option.{Option}
 use Rattle.std.specs.declared.option.Option.the-variants.{None, Some}
 use Rattle.std.proofs.shelf.Elements.{all-append, all-weaker}
 use Rattle.tokens.specs.declared.token.TokenKind.{TokenKind}
-use Rattle.tokens.specs.declared.token.TokenKind.the-variants as K
 use Rattle.tokens.specs.Limits.{Lawful as LawfulByte}
-use Rattle.tokens.specs.Spacing.{between as gap, spacedAfter, spaced, lexemesOf}
-use Rattle.tokens.specs.Tokens.{Lexeme, kindOf, together, WellFormed}
+use Rattle.tokens.specs.Spacing.{between as gap, spacedAfter, spaced}
+use Rattle.tokens.specs.Tokens.{Lexeme, kindOf, together}
 use Rattle.tokens.proofs.Cuts.{separator-none}
 use Rattle.tokens.proofs.Spaces.{spacing-keeps-tokens}
 use Rattle.notation.specs.Operators.Fixity.{prefix, postfix, between}
@@ -22,7 +21,7 @@ use Rattle.notation.specs.Tables.{Table, LawfulTable}
 use Rattle.grammar.specs.Trees.{Tree, Bracketed}
 use Rattle.grammar.specs.Trees.Bracketed.{named, pair, prefixed, postfixed, infixed}
 use Rattle.grammar.specs.Lawful.{Lawful}
-use Rattle.grammar.specs.Reading.{opening, closing, Formed, signOf, lexemes, ReadsTokens, Reads, Spaces, SpacedTokensRead}
+use Rattle.grammar.specs.Reading.{opening, closing, Formed, signOf, lexemes, ReadsTokens, Spaces, SpacedTokensRead}
 use Rattle.grammar.proofs.Tables.{sign-formed}
 
 -- the bytes of a token may stand in an expression

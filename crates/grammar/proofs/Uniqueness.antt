@@ -1,13 +1,11 @@
 -- A text reads as one tree at most, since the machine finds its bracketed tree.
 use mathlib.Core.Path.{_≡_, sym, ap, _∙_}
 use mathlib.Core.List.{List}
-use Prim.Native.Nat.{ℕ}
 use Rattle.std.specs.declared.option.Option.the-variants.{Some}
 use Rattle.tokens.specs.Tokens.{Lexeme}
 use Rattle.notation.specs.Tables.{Table, LawfulTable}
-use Rattle.grammar.specs.Trees.{Tree, Bracketed, erase}
-use Rattle.grammar.specs.Lawful.{Lawful}
-use Rattle.grammar.specs.Reading.{lexemes, ReadsTokens, AtMostOneBracketedTree, AtMostOneTree}
+use Rattle.grammar.specs.Trees.{Tree, erase}
+use Rattle.grammar.specs.Reading.{ReadsTokens, AtMostOneBracketedTree, AtMostOneTree}
 use Rattle.grammar.specs.Machine.{accepted}
 use Rattle.grammar.proofs.Completeness.{finds-all}
 

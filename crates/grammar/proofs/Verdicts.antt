@@ -3,21 +3,16 @@ use mathlib.Core.Path.{_≡_, refl, sym, ap, subst, _∙_}
 use mathlib.Core.Logic.{_⊎_, inl, inr, ⊎-elim}
 use mathlib.Core.List.{List, [], _∷_, _++_, map, append-nil, append-assoc}
 use Prim.Native.Nat.{ℕ}
-use native.Mathlib.Omega.{arith}
-use Rattle.std.specs.shelf.Lists.{All}
-use Rattle.std.specs.declared.result.Result.{Result}
 use Rattle.std.proofs.shelf.Lists.{map-append, map-push}
-use Rattle.tokens.specs.declared.fault.Fault.{Fault}
-use Rattle.tokens.specs.InOrder.{Only}
 use Rattle.tokens.specs.Spacing.{lexemesOf}
 use Rattle.tokens.specs.Tokens.{Lexeme, Placed, lexeme, tokensOf}
 use Rattle.notation.specs.Tables.{Table, LawfulTable}
 use Rattle.grammar.specs.Trees.{Tree}
 use Rattle.grammar.specs.Reading.{Reads}
-use Rattle.grammar.specs.Beginnings.{Live, Dead}
-use Rattle.grammar.specs.Verdicts.{Verdict, FailsAt, FailsAtEnd, Holds, OneVerdict}
+use Rattle.grammar.specs.Beginnings.{Live}
+use Rattle.grammar.specs.Verdicts.{Verdict, FailsAt, Holds, OneVerdict}
 use Rattle.grammar.specs.Verdicts.Verdict.{reads, failsAt, failsAtEnd}
-use Rattle.grammar.specs.Refusals.{answer, Answered, OneAnswer}
+use Rattle.grammar.specs.Refusals.{answer, OneAnswer}
 use Rattle.grammar.proofs.Uniqueness.{at-most-one-tree}
 use Rattle.grammar.proofs.Judging.{judged, judged-holds}
 

@@ -10,7 +10,7 @@ use Rattle.std.proofs.shelf.Elements.{all-append}
 use Rattle.tokens.specs.Spacing.{spaced}
 use Rattle.tokens.specs.Tokens.{Lexeme}
 use Rattle.notation.specs.Tables.{Table, LawfulTable}
-use Rattle.grammar.specs.Trees.{Tree, Bracketed, erase}
+use Rattle.grammar.specs.Trees.{Bracketed, erase}
 use Rattle.grammar.specs.Trees.Bracketed.{named, pair}
 use Rattle.grammar.specs.Reading.{word, closing, Formed, ReadsTokens}
 use Rattle.grammar.specs.Machine.{Pending, Frame, State, start, completed, step, run, outcome, accepted}

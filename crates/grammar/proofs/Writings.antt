@@ -9,18 +9,18 @@ use Rattle.std.specs.declared.option.Option.{Option}
 use Rattle.std.specs.declared.option.Option.the-variants.{None, Some}
 use Rattle.std.specs.Options.{mapped}
 use Rattle.std.proofs.shelf.Tests.{leb-true}
-use Rattle.tokens.specs.Spacing.{closes, pairsAmong, pairsOf, lexemesOf}
+use Rattle.tokens.specs.Spacing.{closes, pairsAmong, pairsOf}
 use Rattle.tokens.specs.Tokens.{Lexeme}
 use Rattle.notation.specs.Operators.{Op, Fixity, fixityOf, operandsIn}
 use Rattle.notation.specs.Operators.Fixity.{prefix, postfix, between}
-use Rattle.notation.specs.Tables.{Table, LawfulTable}
+use Rattle.notation.specs.Tables.{Table}
 use Rattle.grammar.specs.Trees.{Tree, Bracketed, erase, pairs}
 use Rattle.grammar.specs.Trees.Tree.{name, one, two}
 use Rattle.grammar.specs.Trees.Bracketed.{named, pair, prefixed, postfixed, infixed}
-use Rattle.grammar.specs.Weights.{fixityIn, operatorIn, leftLimit, rightLimit, AdmitsLeft, AdmitsRight, admitsLeft, admitsRight}
+use Rattle.grammar.specs.Weights.{fixityIn, operatorIn, AdmitsLeft, AdmitsRight, admitsLeft, admitsRight}
 use Rattle.grammar.specs.Lawful.{Lawful}
 use Rattle.grammar.specs.Reading.{closing, kindOfSpelling, signOf, lexemes, ReadsTokens, Reads}
-use Rattle.grammar.specs.Writing.{paired, asLeft, asRight, writeOne, write, written, HasOperator, Writable, Fewest, Written, WritesFewest, OneFewest, WritableIsReadable}
+use Rattle.grammar.specs.Writing.{paired, writeOne, write, written, HasOperator, Writable, WritesFewest, OneFewest, WritableIsReadable}
 use Rattle.grammar.proofs.Signs.{kind-cases}
 use Rattle.grammar.proofs.Tables.{present}
 use Rattle.grammar.proofs.Texts.{spaces}
