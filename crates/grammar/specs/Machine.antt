@@ -35,7 +35,7 @@ pub data Frame : Type 0 where
   bracket : Frame
   pending : Pending → Frame
 
--- an operand is due; an operator is due, after a bracketed tree; or nothing that goes on reads
+-- an operand is due; an operator is due, after a bracketed tree; or no text that begins so reads
 pub data State : Type 0 where
   operandDue : List Frame → State
   operatorDue : List Frame → Bracketed → State
@@ -90,11 +90,13 @@ module _ (t : Table) where
   unfoldable pub isName : List ℕ → Bool
   isName w = not (isSome (listed t Before w)) && (not (isSome (listed t After w)) && leb (length w) 16)
 
+  -- a word or a symbol where an operand is due: the prefix operator that is listed under it, else the name that it is
   abbrev pub begun : List ℕ → Option ℕ → Bool → List Frame → State
   begun w (Some f) n k = operandDue (pending (prefixing f) ∷ k)
   begun w None true k = operatorDue k (named w)
   begun w None false k = refused
 
+  -- and where an operator is due: the operator that is listed under it
   abbrev pub continued : Option ℕ → List Frame → Bracketed → State
   continued (Some f) k b = settled f k b
   continued None k b = refused

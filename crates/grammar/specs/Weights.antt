@@ -16,7 +16,7 @@ use Rattle.grammar.specs.Trees.Bracketed.{named, pair, prefixed, postfixed, in
 abbrev pub fixityIn : Table → ℕ → Option Fixity
 fixityIn t f = mapped (λ o. fixityOf (o .form)) (t f)
 
--- the operator of a function; for one that has none, an operator that stands in no lawful tree
+-- the operator of a function; one that has none, and so stands in no lawful tree, counts as this
 abbrev pub orAbsent : Option Op → Op
 orAbsent None = record { priority = 1; form = Xfx; spelling = [] }
 orAbsent (Some o) = o
@@ -48,13 +48,15 @@ module _ (t : Table) where
   rightWeight (postfixed f b) = 0
   rightWeight (infixed f a b) = max (operatorIn t f .priority) (rightWeight b)
 
-  -- f's operator admits the bracketed tree as its left operand, and as its right one
+  -- f's operator admits the bracketed tree as its left operand, and as its right one: what it shows towards the
+  -- operator is within the limit there
   abbrev pub AdmitsLeft : ℕ → Bracketed → Type 0
   AdmitsLeft f a = rightWeight a ≤ leftLimit (operatorIn t f)
 
   abbrev pub AdmitsRight : ℕ → Bracketed → Type 0
   AdmitsRight f b = leftWeight b ≤ rightLimit (operatorIn t f)
 
+  -- the same as tests
   abbrev pub admitsLeft : ℕ → Bracketed → Bool
   admitsLeft f a = leb (rightWeight a) (leftLimit (operatorIn t f))
 
