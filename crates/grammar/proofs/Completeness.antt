@@ -106,8 +106,8 @@ module _ (t : Table) where
   operand-sign : (s : List ℕ) (f : ℕ) (k : List Frame) → listed t Before s ≡ Some f → operandStep t (kindOfSpelling s) s k ≡ operandDue (pending (prefixing f) ∷ k)
   operand-sign s f k l =
       ⊎-elim
-      (λ e. ap (λ (v : TokenKind). operandStep t v s k) e ∙ ap (λ (v : Option ℕ). begun t s v (isName t s) k) l)
-      (λ e. ap (λ (v : TokenKind). operandStep t v s k) e ∙ ap (λ (v : Option ℕ). begun t s v false k) l)
+      (λ e. ap (λ (v : TokenKind). operandStep t v s k) e ∙ ap (λ (v : Option ℕ). begun s v (isName t s) k) l)
+      (λ e. ap (λ (v : TokenKind). operandStep t v s k) e ∙ ap (λ (v : Option ℕ). begun s v false k) l)
       (kind-cases s)
 
   operator-sign : (s : List ℕ) (f : ℕ) (k : List Frame) (b : Bracketed) → listed t After s ≡ Some f → operatorStep t (kindOfSpelling s) s k b ≡ settled t f k b
@@ -124,7 +124,7 @@ module _ (t : Table) where
       (and-from (not (isSome (listed t After w))) (leb (length w) 16) (ap (λ (v : Option ℕ). not (isSome v)) (n .after)) (le-leb (length w) 16 (n .short)))
 
   pub step-name : (w : List ℕ) (k : List Frame) → Name t w → step t (operandDue k) (word w) ≡ operatorDue k (named w)
-  step-name w k n = ap (λ (v : Option ℕ). begun t w v (isName t w) k) (n .before) ∙ ap (λ (v : Bool). begun t w None v k) (name-tested w n)
+  step-name w k n = ap (λ (v : Option ℕ). begun w v (isName t w) k) (n .before) ∙ ap (λ (v : Bool). begun w None v k) (name-tested w n)
 
   module _ (lawful : LawfulTable t) where
     -- an operator that the stack admits takes what is left of it
@@ -159,7 +159,7 @@ module _ (t : Table) where
 
     pub finds-all : (b : Bracketed) → Lawful t b → accepted t (lexemes t b) ≡ Some b
     finds-all b l =
-        ap (accepted t) (sym (followed-is b [] ∙ append-nil (lexemes t b))) ∙ ap (outcome t) (finds b [] [] l tt) ∙ ended-spine b []
+        ap (accepted t) (sym (followed-is b [] ∙ append-nil (lexemes t b))) ∙ ap outcome (finds b [] [] l tt) ∙ ended-spine b []
 
 pub machine-finds-all : MachineFindsAll
 machine-finds-all t lawful = finds-all t lawful

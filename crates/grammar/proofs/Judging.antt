@@ -68,7 +68,7 @@ judgedNext refused front x further = failsAt front x
 
 module _ (t : Table) where
   abbrev judgedFrom : State → List Placed → List Placed → Verdict
-  judgedFrom st front [] = judgedEnd (outcome t st)
+  judgedFrom st front [] = judgedEnd (outcome st)
   judgedFrom st front (x ∷ xs) = judgedNext (step t st (lexeme x)) front x (judgedFrom (step t st (lexeme x)) (front ++ (x ∷ [])) xs)
 
   abbrev pub judged : List ℕ → Verdict
@@ -87,7 +87,7 @@ module _ (t : Table) (lawful : LawfulTable t) (text : List ℕ) (bytes : All Law
   from-holds : (rest front : List Placed) (st : State) → tokensOf text ≡ front ++ rest → run t start (map lexeme front) ≡ st → (st ≡ refused → ⊥) → Holds t text (judgedFrom t st front rest)
   from-holds [] front st split e n =
       let whole : run t start (lexemesOf text) ≡ st = ap (λ (xs : List Placed). run t start (map lexeme xs)) (split ∙ append-nil front) ∙ e in
-      end-holds (outcome t st) (ap (outcome t) whole) (λ d. n (sym whole ∙ d))
+      end-holds (outcome st) (ap outcome whole) (λ d. n (sym whole ∙ d))
   from-holds (x ∷ rest) front st split e n =
       let next = step t st (lexeme x) in
       let after : run t start (map lexeme (front ++ (x ∷ []))) ≡ next = ap (run t start) (map-push lexeme front x) ∙ run-append t (map lexeme front) (lexeme x ∷ []) start ∙ ap (λ (v : State). step t v (lexeme x)) e in

@@ -10,6 +10,7 @@ pub mod Stated
 pub mod Tables
 pub mod Takers
 pub mod Texts
+pub mod Told
 pub mod Uniqueness
 pub mod Verdicts
 pub mod Viability

@@ -81,7 +81,7 @@ module _ (t : Table) where
       decided-opens (taker (operatorIn t (functionOf u)) (operatorIn t f)) (settled t f k (completed u b)) (standing (fixityIn t f) f (pending u ∷ k) b) n
       (settled-opens f k (completed u b) n e) (standing-opens (fixityIn t f) f (pending u ∷ k) b n e)
 
-  begun-opens : (s : List ℕ) (o : Option ℕ) (v : Bool) (k : List Frame) (n : ℕ) → n ≡ brackets k → Opens (begun t s o v k) n
+  begun-opens : (s : List ℕ) (o : Option ℕ) (v : Bool) (k : List Frame) (n : ℕ) → n ≡ brackets k → Opens (begun s o v k) n
   begun-opens s (Some f) v k n e = e
   begun-opens s None true k n e = e
   begun-opens s None false k n e = tt
@@ -118,7 +118,7 @@ module _ (t : Table) where
       opens ∙ closed-refused k b (sym (ap (λ (j : TokenKind). operatorStep t j (x .bytes) k b) kind) ∙ e)
   close-unmatched refused d n x live tells opens op kind e = absurd (live refl)
 
-  end-unmatched : (st : State) (d : Due) (n : ℕ) → (st ≡ refused → ⊥) → Tells st d → Opens st n → d ≡ Operator → outcome t st ≡ None → 0 < n
+  end-unmatched : (st : State) (d : Due) (n : ℕ) → (st ≡ refused → ⊥) → Tells st d → Opens st n → d ≡ Operator → outcome st ≡ None → 0 < n
   end-unmatched (operandDue k) d n live tells opens op e = let z : _≡_ {A = ℕ} 0 1 = cc in absurd (omega arith)
   end-unmatched (operatorDue k b) d n live tells opens op e = omega (arith, ended-none k b e)
   end-unmatched refused d n live tells opens op e = absurd (live refl)

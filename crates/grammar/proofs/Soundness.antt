@@ -128,7 +128,7 @@ module _ (t : Table) where
         (λ d. settled-held rest f k (completed u b) waits law room (omega (arith, left-taker v o d, completed-weight u b)) (sym (completed-below u k b (signOf t f ∷ rest)) ∙ e))
         (λ d. standing-held rest (fixityIn t f) f (pending u ∷ k) b refl w l (omega (arith, right-taker v o d)) r e)
 
-    begun-held : (rest : List Lexeme) (kind : TokenKind) (s : List ℕ) (o : Option ℕ) (n : Bool) (k : List Frame) → kindOfSpelling s ≡ kind → listed t Before s ≡ o → (n ≡ true → Name t s × (kind ≡ Word)) → Waits k → below k (token kind s ∷ rest) ≡ whole → Held rest (begun t s o n k)
+    begun-held : (rest : List Lexeme) (kind : TokenKind) (s : List ℕ) (o : Option ℕ) (n : Bool) (k : List Frame) → kindOfSpelling s ≡ kind → listed t Before s ≡ o → (n ≡ true → Name t s × (kind ≡ Word)) → Waits k → below k (token kind s ∷ rest) ≡ whole → Held rest (begun s o n k)
     begun-held rest kind s (Some f) n k d h m w e =
         ((listed-prefix t s f h, w), ap (λ (x : Lexeme). below k (x ∷ rest)) (sign-token (operatorIn t f .spelling) s kind (listed-sign t Before s f h .spelt) d) ∙ e)
     begun-held rest kind s None true k d h m w e = let name = m refl in (w, name .0, admits-zero k, refl, ap (λ (j : TokenKind). below k (token j s ∷ rest)) (sym (name .1)) ∙ e)
@@ -160,7 +160,7 @@ module _ (t : Table) where
     run-held [] st h held = held
     run-held (x ∷ xs) st h held = run-held xs (step t st x) (h .1) (step-held xs st x (h .0) held)
 
-    outcome-held : (st : State) (b : Bracketed) → Held [] st → outcome t st ≡ Some b → Lawful t b × (followed t b [] ≡ whole)
+    outcome-held : (st : State) (b : Bracketed) → Held [] st → outcome st ≡ Some b → Lawful t b × (followed t b [] ≡ whole)
     outcome-held (operandDue k) b held e = let z : _≡_ {A = ℕ} 0 1 = cc in absurd (omega arith)
     outcome-held (operatorDue k a) b (w, l, m, r, d) e = ended-held k a b w l m d e
     outcome-held refused b held e = let z : _≡_ {A = ℕ} 0 1 = cc in absurd (omega arith)

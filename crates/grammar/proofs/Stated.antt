@@ -49,7 +49,7 @@ module _ (t : Table) where
       decided-tells (taker (operatorIn t (functionOf u)) (operatorIn t f)) (settled t f k (completed u b)) (standing (fixityIn t f) f (pending u ∷ k) b) (dueBehind (fixityIn t f))
       (settled-tells f k (completed u b)) (standing-tells (fixityIn t f) f (pending u ∷ k) b)
 
-  begun-tells : (s : List ℕ) (o : Option ℕ) (n : Bool) (k : List Frame) → listed t Before s ≡ o → Tells (begun t s o n k) (dueBehindSign t o)
+  begun-tells : (s : List ℕ) (o : Option ℕ) (n : Bool) (k : List Frame) → listed t Before s ≡ o → Tells (begun s o n k) (dueBehindSign t o)
   begun-tells s (Some f) n k e = ap dueBehind (listed-prefix t s f e)
   begun-tells s None true k e = refl
   begun-tells s None false k e = tt

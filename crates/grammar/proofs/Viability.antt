@@ -43,12 +43,12 @@ module _ (t : Table) where
   run-refused (x ∷ xs) = run-refused xs
 
   -- before a `)` or the end, what waits takes its operand
-  taken : (u : Pending) (k : List Frame) (b : Bracketed) (j : List Frame) → outcome t (run t (operatorDue (pending u ∷ k) b) (closings j)) ≡ outcome t (run t (operatorDue k (completed u b)) (closings j))
+  taken : (u : Pending) (k : List Frame) (b : Bracketed) (j : List Frame) → outcome (run t (operatorDue (pending u ∷ k) b) (closings j)) ≡ outcome (run t (operatorDue k (completed u b)) (closings j))
   taken u k b [] = refl
   taken u k b (bracket ∷ j) = refl
   taken u k b (pending v ∷ j) = taken u k b j
 
-  shut : (k : List Frame) (b : Bracketed) → (c : Bracketed) × (outcome t (run t (operatorDue k b) (closings k)) ≡ Some c)
+  shut : (k : List Frame) (b : Bracketed) → (c : Bracketed) × (outcome (run t (operatorDue k b) (closings k)) ≡ Some c)
   shut [] b = (b, refl)
   shut (bracket ∷ k) b = shut k (pair b)
   shut (pending u ∷ k) b = let (c, e) = shut k (completed u b) in (c, taken u k b k ∙ e)
@@ -58,13 +58,13 @@ module _ (t : Table) where
     pub more : List Lexeme
     pub formed : All Formed more
     pub tree : Bracketed
-    pub found : outcome t (run t st more) ≡ Some tree
+    pub found : outcome (run t st more) ≡ Some tree
 
   dead-tokens : LawfulTable t → (front : List Lexeme) → run t start front ≡ refused → LiveTokens t front → ⊥
   dead-tokens lawful front e live =
       let r = live .reads in
       let found : accepted t (front ++ live .more) ≡ Some (r .bracketed) = ap (accepted t) (sym (r .tokens)) ∙ finds-all t lawful (r .bracketed) (r .lawful) in
-      let none : accepted t (front ++ live .more) ≡ None = ap (outcome t) (run-append front (live .more) start ∙ ap (λ (st : State). run t st (live .more)) e ∙ run-refused (live .more)) in
+      let none : accepted t (front ++ live .more) ≡ None = ap outcome (run-append front (live .more) start ∙ ap (λ (st : State). run t st (live .more)) e ∙ run-refused (live .more)) in
       let z : _≡_ {A = ℕ} 0 1 = cc in omega arith
 
   module _ (lawful : LawfulTable t) where
@@ -72,7 +72,7 @@ module _ (t : Table) where
     goes-on (operandDue k) n =
         let name = long-name t lawful in
         let (c, e) = shut k (named (replicate 13 97)) in
-        record { more = word (replicate 13 97) ∷ closings k; formed = (name .word, closings-formed k); tree = c; found = ap (λ (st : State). outcome t (run t st (closings k))) (step-name t (replicate 13 97) k name) ∙ e }
+        record { more = word (replicate 13 97) ∷ closings k; formed = (name .word, closings-formed k); tree = c; found = ap (λ (st : State). outcome (run t st (closings k))) (step-name t (replicate 13 97) k name) ∙ e }
     goes-on (operatorDue k b) n = let (c, e) = shut k b in record { more = closings k; formed = closings-formed k; tree = c; found = e }
     goes-on refused n = absurd (n refl)
 
@@ -80,7 +80,7 @@ module _ (t : Table) where
     live-tokens front h n =
         let g = goes-on (run t start front) n in
         let all = front ++ g .more in
-        let (law, same) = finds-only t all (all-append Formed front (g .more) h (g .formed)) (g .tree) (ap (outcome t) (run-append front (g .more) start) ∙ g .found) in
+        let (law, same) = finds-only t all (all-append Formed front (g .more) h (g .formed)) (g .tree) (ap outcome (run-append front (g .more) start) ∙ g .found) in
         record { more = g .more; tree = erase (g .tree); reads = record { bracketed = g .tree; lawful = law; tokens = same; erased = refl } }
 
     live-text : (front : List Lexeme) → LiveTokens t front → Live t front

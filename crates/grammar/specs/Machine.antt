@@ -65,6 +65,12 @@ ended [] b = Some b
 ended (bracket ∷ k) b = None
 ended (pending u ∷ k) b = ended k (completed u b)
 
+-- the bracketed tree that is finished at the end, if any
+abbrev pub outcome : State → Option Bracketed
+outcome (operandDue k) = None
+outcome (operatorDue k b) = ended k b
+outcome refused = None
+
 -- the operator of f stands after b, its left operand
 abbrev pub standing : Option Fixity → ℕ → List Frame → Bracketed → State
 standing None f k b = refused
@@ -78,6 +84,12 @@ decided Left further here = further
 decided Right further here = here
 decided Neither further here = refused
 
+-- a word or a symbol where an operand is due: the prefix operator that is listed under it, else the name that it is
+abbrev pub begun : List ℕ → Option ℕ → Bool → List Frame → State
+begun w (Some f) n k = operandDue (pending (prefixing f) ∷ k)
+begun w None true k = operatorDue k (named w)
+begun w None false k = refused
+
 module _ (t : Table) where
   -- the operator of f comes after b, beside what waits on the stack
   abbrev pub settled : ℕ → List Frame → Bracketed → State
@@ -90,13 +102,7 @@ module _ (t : Table) where
   unfoldable pub isName : List ℕ → Bool
   isName w = not (isSome (listed t Before w)) && (not (isSome (listed t After w)) && leb (length w) 16)
 
-  -- a word or a symbol where an operand is due: the prefix operator that is listed under it, else the name that it is
-  abbrev pub begun : List ℕ → Option ℕ → Bool → List Frame → State
-  begun w (Some f) n k = operandDue (pending (prefixing f) ∷ k)
-  begun w None true k = operatorDue k (named w)
-  begun w None false k = refused
-
-  -- and where an operator is due: the operator that is listed under it
+  -- a word or a symbol where an operator is due: the operator that is listed under it
   abbrev pub continued : Option ℕ → List Frame → Bracketed → State
   continued (Some f) k b = settled f k b
   continued None k b = refused
@@ -123,12 +129,6 @@ module _ (t : Table) where
   abbrev pub run : State → List Lexeme → State
   run st [] = st
   run st (x ∷ xs) = run (step st x) xs
-
-  -- the bracketed tree that is finished at the end, if any
-  abbrev pub outcome : State → Option Bracketed
-  outcome (operandDue k) = None
-  outcome (operatorDue k b) = ended k b
-  outcome refused = None
 
   abbrev pub accepted : List Lexeme → Option Bracketed
   accepted xs = outcome (run start xs)

@@ -27,6 +27,11 @@ use Rattle.grammar.specs.Dues.{dueAfter}
 use Rattle.grammar.specs.Verdicts.{Verdict, FailsAt, FailsAtEnd, Holds}
 use Rattle.grammar.specs.Verdicts.Verdict.{reads, failsAt, failsAtEnd}
 
+-- the fault of a text that fails at its end: with an operator due, a bracket is open
+abbrev pub faultAtEnd : Due → FaultKind
+faultAtEnd Operand = OperandExpected
+faultAtEnd Operator = UnmatchedBracket
+
 module _ (t : Table) where
   -- a symbol that is listed in neither position
   abbrev pub isUnlistedSymbol : TokenKind → List ℕ → Bool
@@ -50,11 +55,6 @@ module _ (t : Table) where
   -- the fault of a token that fails where this is due
   abbrev pub faultAt : Due → Lexeme → FaultKind
   faultAt d x = cond (isUnlistedSymbol (x .kind) (x .bytes)) UnlistedSymbol (faultFor d (x .kind) (x .bytes))
-
-  -- the fault of a text that fails at its end: with an operator due, a bracket is open
-  abbrev pub faultAtEnd : Due → FaultKind
-  faultAtEnd Operand = OperandExpected
-  faultAtEnd Operator = UnmatchedBracket
 
   -- the answer to a text by its verdict: the tree, or the fault at the token's place or at the text's length
   abbrev pub answer : List ℕ → Verdict → Result Tree Fault
