@@ -25,15 +25,7 @@ use Rattle.notation.specs.declared.form.Side.the-variants.{X, Y}
 use Rattle.notation.specs.Operators.{Op, positionOf, operandsOf, leftSide, rightSide, NoDigitFirst, Spelling}
 use Rattle.notation.specs.Tables.{LawfulOp, Listed, LawfulTable, operandsOfFunction, samePosition}
 use Rattle.grammar.specs.Rows.{Row, tableOf}
-
--- a test of every element
-abbrev every : {X : Type 0} → (X → Bool) → List X → Bool
-every test [] = true
-every test (x ∷ xs) = test x && every test xs
-
-every-passes : {X : Type 0} (test : X → Bool) (xs : List X) → every test xs ≡ true → All (λ x. test x ≡ true) xs
-every-passes test [] e = tt
-every-passes test (x ∷ xs) e = let (first, later) = and-parts (test x) (every test xs) e in (first, every-passes test xs later)
+use Rattle.grammar.proofs.Tested.{every, every-passes}
 
 -- spellings
 abbrev hasKind : (TokenKind → Bool) → Option TokenKind → Bool
