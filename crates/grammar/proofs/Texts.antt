@@ -21,7 +21,7 @@ use Rattle.notation.specs.Tables.{Table, LawfulTable}
 use Rattle.grammar.specs.Trees.{Tree, Bracketed}
 use Rattle.grammar.specs.Trees.Bracketed.{named, pair, prefixed, postfixed, infixed}
 use Rattle.grammar.specs.Lawful.{Lawful}
-use Rattle.grammar.specs.Reading.{opening, closing, Formed, signOf, lexemes, ReadsTokens, Spaces, SpacedTokensRead}
+use Rattle.grammar.specs.Reading.{opening, closing, Formed, signOf, lexemes, ReadsTokens, ReadsSpaced, SpacedTokensRead}
 use Rattle.grammar.proofs.Tables.{sign-formed}
 
 -- the bytes of a token may stand in an expression
@@ -62,7 +62,7 @@ module _ (t : Table) (lawful : LawfulTable t) where
   lexemes-formed (infixed f b c) (x, a, d, l, m) =
       all-append Formed (lexemes t b) (signOf t f ∷ lexemes t c) (lexemes-formed b l) (sign-formed t lawful f between x, lexemes-formed c m)
 
-  pub spaces : (xs : List Lexeme) (tree : Tree) → ReadsTokens t xs tree → Spaces t xs tree
+  pub spaces : (xs : List Lexeme) (tree : Tree) → ReadsTokens t xs tree → ReadsSpaced t xs tree
   spaces xs tree r =
       let formed = subst (All Formed) (r .tokens) (lexemes-formed (r .bracketed) (r .lawful)) in
       let cut = spacing-keeps-tokens xs formed in

@@ -26,7 +26,7 @@ exampleRows =
 abbrev pub exampleTable : Table
 exampleTable = tableOf exampleRows
 
--- a text and the tree that it reads as; a text, the number of its fault and the place; a tree and what is written for it
+-- a text and the tree that it reads as; a text, the number of its fault and its place; a tree and its written text
 pub data Example : Type 0 where
   readsAs : List ℕ → Tree → Example
   refusedWith : List ℕ → ℕ → ℕ → Example
@@ -37,15 +37,30 @@ Shown t (readsAs text tree) = Reads t text tree
 Shown t (refusedWith text n place) = (k : FaultKind) × (numberOf k ≡ n) × Answered t text (Err (fault k place))
 Shown t (writtenAs tree text) = (written t tree ≡ text) × Reads t text tree × Fewest t tree (pairsOf text)
 
--- In the third place of a refusal stands the place of the token that fails, or the text's length.
+abbrev pub a : Tree
+a = name (codes "a")
+
+abbrev pub b : Tree
+b = name (codes "b")
+
+abbrev pub c : Tree
+c = name (codes "c")
+
+abbrev pub v : Tree
+v = name (codes "v")
+
+abbrev pub x : Tree
+x = name (codes "x")
+
+-- a refusal's place is that of the token that fails, or the text's length
 abbrev pub examples : List Example
 examples =
-    readsAs (codes "a*not b+c") (two 32 (name (codes "a")) (one 0 (two 35 (name (codes "b")) (name (codes "c")))))
-    ∷ readsAs (codes "a+b later*c") (two 32 (one 1 (two 35 (name (codes "a")) (name (codes "b")))) (name (codes "c")))
+    readsAs (codes "a*not b+c") (two 32 a (one 0 (two 35 b c)))
+    ∷ readsAs (codes "a+b later*c") (two 32 (one 1 (two 35 a b)) c)
     ∷ refusedWith (codes "a=b=c") 28 3
-    ∷ writtenAs (two 46 (name (codes "a")) (one 2 (name (codes "b")))) (codes "a^ -b")
-    ∷ writtenAs (two 35 (name (codes "x")) (two 32 (two 46 (one 1 (name (codes "b"))) (one 0 (name (codes "c")))) (name (codes "v")))) (codes "x+(b later^not c)*v")
-    ∷ writtenAs (two 32 (name (codes "a")) (one 0 (name (codes "b")))) (codes "a*not b")
+    ∷ writtenAs (two 46 a (one 2 b)) (codes "a^ -b")
+    ∷ writtenAs (two 35 x (two 32 (two 46 (one 1 b) (one 0 c)) v)) (codes "x+(b later^not c)*v")
+    ∷ writtenAs (two 32 a (one 0 b)) (codes "a*not b")
     ∷ refusedWith [] 25 0
     ∷ refusedWith (codes "()") 25 1
     ∷ refusedWith (codes "a)") 27 1

@@ -71,10 +71,10 @@ abbrev pub AtMostOneTree : Type 0
 AtMostOneTree = (t : Table) → LawfulTable t → (text : List ℕ) (x y : Tree) → Reads t text x → Reads t text y → x ≡ y
 
 -- Tokens that read are those of a text that reads: they are well formed, and their spaced text has them and reads.
-pub record Spaces (t : Table) (xs : List Lexeme) (tree : Tree) : Type 0 where
+pub record ReadsSpaced (t : Table) (xs : List Lexeme) (tree : Tree) : Type 0 where
   pub formed : All Formed xs
   pub cut : lexemesOf (spaced xs) ≡ xs
   pub reads : Reads t (spaced xs) tree
 
 abbrev pub SpacedTokensRead : Type 0
-SpacedTokensRead = (t : Table) → LawfulTable t → (xs : List Lexeme) (tree : Tree) → ReadsTokens t xs tree → Spaces t xs tree
+SpacedTokensRead = (t : Table) → LawfulTable t → (xs : List Lexeme) (tree : Tree) → ReadsTokens t xs tree → ReadsSpaced t xs tree
