@@ -1,0 +1,5 @@
+use Rattle.grammar.proofs.Uniqueness.{at-most-one-tree}
+use Rattle.grammar.proofs.theorems.at_most_one_tree.Needs as need
+
+pub returns : need.returns
+returns c = at-most-one-tree

@@ -1,0 +1,13 @@
+pub mod Beginnings
+pub mod Dues
+pub mod Examples
+pub mod Lawful
+pub mod Machine
+pub mod Neighbours
+pub mod Reading
+pub mod Refusals
+pub mod Rows
+pub mod Trees
+pub mod Verdicts
+pub mod Weights
+pub mod Writing
