@@ -2,7 +2,6 @@ pub mod Completeness
 pub mod Fewer
 pub mod Judging
 pub mod Partners
-pub mod Rows
 pub mod Shown
 pub mod Signs
 pub mod Soundness

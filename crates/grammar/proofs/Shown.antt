@@ -32,7 +32,7 @@ use Rattle.grammar.specs.Writing.{written, Fewest}
 use Rattle.grammar.specs.Examples.{exampleRows, exampleTable, Example, Shown, examples, ExamplesHold}
 use Rattle.grammar.specs.Examples.Example.{readsAs, refusedWith, writtenAs}
 use Rattle.grammar.proofs.Judging.{judged, judged-holds}
-use Rattle.grammar.proofs.Rows.{lawful-rows}
+use Rattle.notation.proofs.Rows.{rows-lawful}
 use Rattle.grammar.proofs.Tested.{every, every-passes}
 use Rattle.grammar.proofs.Writings.{writes-fewest, writable-is-readable}
 
@@ -132,7 +132,7 @@ module _ (t : Table) where
 
 example-lawful : LawfulTable exampleTable
 unfolding kindOf
-example-lawful = lawful-rows exampleRows refl
+example-lawful = rows-lawful exampleRows refl
 
 passed : every (isShown exampleTable) examples ≡ true
 unfolding listed tokensFrom kindOf isName kindOfSpelling

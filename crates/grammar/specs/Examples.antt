@@ -14,7 +14,7 @@ use Rattle.grammar.specs.Trees.{Tree}
 use Rattle.grammar.specs.Trees.Tree.{name, one, two}
 use Rattle.grammar.specs.Reading.{Reads}
 use Rattle.grammar.specs.Refusals.{Answered}
-use Rattle.grammar.specs.Rows.{Row, row, tableOf}
+use Rattle.notation.specs.Rows.{Row, row, tableOf}
 use Rattle.grammar.specs.Writing.{written, Fewest}
 
 -- the list: function, priority, type and spelling

@@ -6,7 +6,6 @@ pub mod Machine
 pub mod Neighbours
 pub mod Reading
 pub mod Refusals
-pub mod Rows
 pub mod Trees
 pub mod Verdicts
 pub mod Weights
