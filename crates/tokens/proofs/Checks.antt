@@ -109,3 +109,7 @@ limits-only text r h = record { is = h; only = λ s k. limits-one text s r k h }
 
 pub too-long : (text : List ℕ) → 4096 < length text → Limits text (Err (fault ExpressionTooLong 4096))
 too-long text over = inl (over, refl)
+
+-- an expression within the limits is accepted
+pub within-accepted : (text : List ℕ) → WithinLimits text → Limits text (Ok tt)
+within-accepted text h = tokens-checked text (Ok tt) (h .bytes) (h .lawful) (inr (none-over text (h .tokens), inr (none-long text (h .words), refl)))

@@ -10,8 +10,8 @@ use lib.ListN.{length}
 use Rattle.std.specs.shelf.Lists.{All}
 use Rattle.std.specs.declared.option.Option.{Option}
 use Rattle.std.specs.declared.option.Option.the-variants.{None, Some}
-use Rattle.std.proofs.shelf.Lists.{length-append, nil-from-length}
-use Rattle.std.proofs.shelf.Tests.{cases-bool, both-ways}
+use Rattle.std.proofs.shelf.Lists.{length-append, length-map}
+use Rattle.std.proofs.shelf.Tests.{both-ways}
 use Rattle.tokens.specs.declared.token.TokenKind.{TokenKind}
 use Rattle.tokens.specs.declared.token.TokenKind.the-variants.{Word, Symbol, Open, Close}
 use Rattle.tokens.specs.Tokens.{Lexeme, Placed, lexeme, kindOf, together, tokensFrom, tokensOf, Separator, WellFormed, Longest, CutInto}
@@ -118,6 +118,9 @@ spaced-count last (t ∷ ts) h =
 
 pub pairs-fit : (text : List ℕ) → pairsOf text ≤ length text
 pairs-fit text = omega (arith, pairs-few (lexemesOf text), spaced-count None (lexemesOf text) (formed text), respaced-fits text)
+
+pub pairs-within : (text : List ℕ) → pairsOf text ≤ length (tokensOf text)
+pairs-within text = omega (arith, pairs-few (lexemesOf text), length-map (tokensOf text) lexeme)
 
 -- One turn of a loop that appends token after token: `ahead` are the tokens to come, `goal` the bytes in the end.
 module _ (out : List ℕ) (last : Option TokenKind) (ahead rest : List Placed) (t : Placed) (next : ahead ≡ t ∷ rest) where

@@ -8,6 +8,7 @@ mod spacing;
 mod token;
 
 pub use byte::ByteClass;
+pub use byte::ByteClassPartialEq;
 pub use cutter::Cutter;
 pub use cutting::CutterIterator;
 pub use fault::Fault;
@@ -20,3 +21,4 @@ pub use spacing::needs_space;
 pub use spacing::push_respaced;
 pub use token::Token;
 pub use token::TokenKind;
+pub use token::TokenKindPartialEq;

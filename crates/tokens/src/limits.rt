@@ -1,15 +1,16 @@
 // The limits of an expression as a whole, which are looked at before it is read.
 ghost use mathlib.Core.Path.{_≡_};
 ghost use mathlib.Core.List.{List, [], _∷_, _++_};
-ghost use Prim.Native.Nat.{_≤_};
+ghost use Prim.Native.Nat.{_<_, _≤_};
 ghost use lib.ListN.{length};
 ghost use Rattle.std.specs.shelf.Lists.{All};
 ghost use Rattle.std.specs.declared.option.Option.the-variants.{None};
+ghost use Rattle.std.specs.Orderings.{When};
 ghost use Rattle.std.specs.Results.{Cases};
 ghost use Rattle.std.specs.Vec.{made};
 ghost use Rattle.tokens.specs.Faults.{fault};
 ghost use Rattle.tokens.specs.InOrder.{Only};
-ghost use Rattle.tokens.specs.Limits.{Lawful, FirstUnlawful, LongWordIn, TokenLimits, Limits, WithinLimits};
+ghost use Rattle.tokens.specs.Limits.{Lawful, FirstUnlawful, LongWord, LongWordIn, TokenLimits, Limits, WithinLimits};
 ghost use Rattle.tokens.specs.Tokens.{Placed, placed, tokensOf};
 use crate::byte::ByteClass;
 use crate::byte::ByteClassPartialEq;
@@ -43,15 +44,22 @@ fn check_bytes(text: &[u8]) -> Result<(), Fault>
     Ok(())
 }
 
+// Whether the token is a word that is too long.
+fn is_long_word(token: Token<'_>) -> bool
+    ensures { λ r. ⌜ When r (LongWord (placed (token .entry))) (LongWord (placed (token .entry)) → ⊥) ⌝ }
+{
+    match token {
+        Token::Word { bytes, .. } => bytes.len() > MAX_WORD_BYTES,
+        Token::Symbol { .. } | Token::Open { .. } | Token::Close { .. } => false,
+    }
+}
+
 // The place of the first word that is too long, once `token` has come after those with `earlier`.
 fn first_long_word(earlier: Option<usize>, token: Token<'_>) -> Option<usize>
     ensures { λ r. ⌜ ((before : List Placed) → LongWordIn before earlier → LongWordIn (before ++ placed (token .entry) ∷ []) r) ⌝ }
 {
-    let Token::Word { place, bytes } = token else {
-        return earlier;
-    };
-    if bytes.len() > MAX_WORD_BYTES {
-        earlier.or(Some(place))
+    if is_long_word(token) {
+        earlier.or(Some(token.place()))
     } else {
         earlier
     }
@@ -83,13 +91,20 @@ fn check_tokens(text: &[u8]) -> Result<(), Fault>
     }
 }
 
+// Whether the expression has too many bytes.
+fn is_too_long(text: &[u8]) -> bool
+    ensures { λ r. ⌜ When r (4096 < length (now (text .entry))) (length (now (text .entry)) ≤ 4096) ⌝ }
+{
+    text.len() > MAX_EXPRESSION_BYTES
+}
+
 // The first limit that the expression passes, in this order: its bytes, an unlawful byte, its
 // tokens, a word's length.
 pub fn check_expression(text: &[u8]) -> Result<(), Fault>
     ensures answer { λ r. ⌜ Only (Limits (now (text .entry))) r ⌝ }
     ensures within { λ r. ⌜ made r (λ _. WithinLimits (now (text .entry))) ⌝ }
 {
-    if text.len() > MAX_EXPRESSION_BYTES {
+    if is_too_long(text) {
         return Err(Fault {
             kind: FaultKind::ExpressionTooLong,
             place: MAX_EXPRESSION_BYTES,

@@ -1,0 +1,5 @@
+pub mod Outputs
+pub mod Parts
+pub mod Plans
+pub mod Reporting
+pub mod Splits
