@@ -1,7 +1,9 @@
 // The rack: nodes that hold trees in postorder, and what is worked out over them.
 mod fill;
+mod filling;
 mod name;
 mod node;
+mod spelling;
 
 pub use fill::Fill;
 pub use fill::RACK_NODES;
