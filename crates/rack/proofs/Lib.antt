@@ -1,1 +1,5 @@
-mod Words
+pub mod Keeping
+pub mod Lying
+pub mod Postorder
+pub mod Readable
+pub mod Words

@@ -4,6 +4,7 @@ mod filling;
 mod name;
 mod node;
 mod spelling;
+mod theorems;
 
 pub use fill::Fill;
 pub use fill::RACK_NODES;
@@ -11,3 +12,9 @@ pub use name::MAX_NAME_BYTES;
 pub use name::Name;
 pub use node::Item;
 pub use node::Node;
+pub use theorems::later_nodes_do_not_matter;
+pub use theorems::lies_consecutively;
+pub use theorems::lies_where_put;
+pub use theorems::names_are_words;
+pub use theorems::one_tree_lies;
+pub use theorems::read_trees_are_proper;
