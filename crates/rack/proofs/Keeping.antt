@@ -12,23 +12,23 @@ use Rattle.rack.specs.declared.node.Item.{Item}
 use Rattle.rack.specs.declared.node.Item.the-variants as I
 use Rattle.rack.specs.declared.node.Node.{Node}
 use Rattle.rack.specs.Nodes.{size, nameOf, blank, LiesFrom, SameBelow}
-use Rattle.rack.specs.Racks.{ProperTree, itemAt, sizeAt, HasOne, HasTwo, SoundAs, Sound, SoundBelow, Lies}
+use Rattle.rack.specs.Racks.{ProperTree, itemAt, sizeAt, HasOne, HasTwo, Heads, Sound, SoundBelow, Lies}
 use Rattle.rack.proofs.Lying.{size-some, root-size, name-item, one-item, two-item}
 use Rattle.rack.proofs.Postorder.{lies-where-put}
 
 module _ (rack : List Node) where
   -- the root of a tree is sound, and so are the roots of its operands
   root-sound : (i : ℕ) (t : Tree) → Lies rack i t → Sound rack i
-  root-sound i (name w) l = subst (SoundAs rack i) (sym (name-item rack i w l)) ((w, l .0, refl), root-size rack i (name w) l)
+  root-sound i (name w) l = subst (λ (x : Item). Heads rack i x (sizeAt rack i)) (sym (name-item rack i w l)) ((w, l .0, refl), root-size rack i (name w) l)
   root-sound i (one f t) l =
       let n = root-size rack (i - 1) t (l .3) in
       let k = root-size rack i (one f t) l in
-      subst (SoundAs rack i) (sym (one-item rack i f t l)) (inl (record { function = l .0; operand = omega (arith, size-some t, l .1); whole = omega arith }))
+      subst (λ (x : Item). Heads rack i x (sizeAt rack i)) (sym (one-item rack i f t l)) (inl (record { function = l .0; operand = omega (arith, size-some t, l .1); whole = omega arith }))
   root-sound i (two f s t) l =
       let n = root-size rack (i - 1) t (l .5) in
       let m : sizeAt rack (i - 1 - sizeAt rack (i - 1)) ≡ size s = ap (λ j. sizeAt rack (i - 1 - j)) n ∙ root-size rack (i - 1 - size t) s (l .4) in
       let k = root-size rack i (two f s t) l in
-      subst (SoundAs rack i) (sym (two-item rack i f s t l)) (inr (record { low = l .0; high = l .1; operands = omega (arith, size-some s, l .2); whole = omega arith }))
+      subst (λ (x : Item). Heads rack i x (sizeAt rack i)) (sym (two-item rack i f s t l)) (inr (record { low = l .0; high = l .1; operands = omega (arith, size-some s, l .2); whole = omega arith }))
 
   tree-sound : (i : ℕ) (t : Tree) → Lies rack i t → (j : ℕ) → i < j + size t → j < i + 1 → Sound rack j
   tree-sound i (name w) l j from to = let at : i ≡ j = omega arith in subst (Sound rack) at (root-sound i (name w) l)
@@ -61,25 +61,25 @@ module _ (n : ℕ) (before after : List Node) (same : SameBelow n before after) 
   size-same : (i : ℕ) → i < n → sizeAt before i ≡ sizeAt after i
   size-same i lt = ap (λ (x : Node). x .size) (same-node i lt)
 
-  one-same : (i f : ℕ) → i < n → HasOne before i f → HasOne after i f
+  one-same : (i f : ℕ) → i < n → HasOne before i f (sizeAt before i) → HasOne after i f (sizeAt after i)
   one-same i f lt h =
       let here = size-same i lt in
       let operand = size-same (i - 1) (omega arith) in
       record { function = h .function; operand = h .operand; whole = omega (arith, h .whole) }
 
-  two-same : (i f : ℕ) → i < n → HasTwo before i f → HasTwo after i f
+  two-same : (i f : ℕ) → i < n → HasTwo before i f (sizeAt before i) → HasTwo after i f (sizeAt after i)
   two-same i f lt h =
       let here = size-same i lt in
       let second = size-same (i - 1) (omega arith) in
       let first : sizeAt before (i - 1 - sizeAt before (i - 1)) ≡ sizeAt after (i - 1 - sizeAt after (i - 1)) = size-same (i - 1 - sizeAt before (i - 1)) (omega arith) ∙ ap (λ k. sizeAt after (i - 1 - k)) second in
       record { low = h .low; high = h .high; operands = omega (arith, h .operands); whole = omega (arith, h .whole) }
 
-  as-same : (i : ℕ) (x : Item) → i < n → SoundAs before i x → SoundAs after i x
+  as-same : (i : ℕ) (x : Item) → i < n → Heads before i x (sizeAt before i) → Heads after i x (sizeAt after i)
   as-same i (I.Name w) lt h = (h .0, sym (size-same i lt) ∙ h .1)
-  as-same i (I.Function f) lt h = ⊎-elim (λ (k : HasOne before i f). inl (one-same i f lt k)) (λ (k : HasTwo before i f). inr (two-same i f lt k)) h
+  as-same i (I.Function f) lt h = ⊎-elim (λ (k : HasOne before i f (sizeAt before i)). inl (one-same i f lt k)) (λ (k : HasTwo before i f (sizeAt before i)). inr (two-same i f lt k)) h
 
   sound-same : SoundBelow before n → SoundBelow after n
-  sound-same sound i lt = subst (SoundAs after i) (ap (λ (x : Node). x .item) (same-node i lt)) (as-same i (itemAt before i) lt (sound i lt))
+  sound-same sound i lt = subst (λ (x : Item). Heads after i x (sizeAt after i)) (ap (λ (x : Node). x .item) (same-node i lt)) (as-same i (itemAt before i) lt (sound i lt))
 
   lies-same : (i : ℕ) (t : Tree) → i < n → Lies before i t → Lies after i t
   lies-same i (name w) lt l = (l .0, sym (same-node i lt) ∙ l .1)

@@ -1,3 +1,4 @@
+pub mod Answering
 pub mod Keeping
 pub mod Lying
 pub mod Postorder

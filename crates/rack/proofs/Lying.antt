@@ -21,7 +21,7 @@ use Rattle.rack.specs.declared.node.Item.the-variants as I
 use Rattle.rack.specs.declared.node.Node.{Node}
 use Rattle.rack.specs.Nodes.{padded, nameOf, size, nameNode, functionNode, blank}
 use Rattle.rack.specs.Names.{ShortWord, ProperName, spelt}
-use Rattle.rack.specs.Racks.{itemAt, sizeAt, HasOne, HasTwo, SoundAs, Sound, SoundBelow, FirstUnsound, Lies, NoRoot, AtTree}
+use Rattle.rack.specs.Racks.{itemAt, sizeAt, HasOne, HasTwo, Heads, Sound, SoundBelow, FirstUnsound, Lies, NoRoot, AtTree}
 use Rattle.rack.proofs.Words.{spelt-padded}
 
 -- a tree has at least one node
@@ -109,13 +109,13 @@ module _ (rack : List Node) where
       let named : n ≡ nameOf w = ap (λ (l : List ℕ). record { bytes = l }) bytes in
       (name w, (short, holds i (I.Name (nameOf w)) 1 (is ∙ ap I.Name named) one-node))
 
-  one-here : (i f : ℕ) → itemAt rack i ≡ I.Function f → HasOne rack i f → Here (i - 1) → Here i
+  one-here : (i f : ℕ) → itemAt rack i ≡ I.Function f → HasOne rack i f (sizeAt rack i) → Here (i - 1) → Here i
   one-here i f is h (t, l) =
       let n = root-size (i - 1) t l in
       let fits : size t ≤ i = omega (arith, begins (i - 1) t l, h .operand) in
       (one f t, (h .function, fits, holds i (I.Function f) (size t + 1) is (h .whole ∙ ap (λ k. k + 1) n), l))
 
-  two-here : (i f : ℕ) → itemAt rack i ≡ I.Function f → HasTwo rack i f → Here (i - 1) → Here (i - 1 - sizeAt rack (i - 1)) → Here i
+  two-here : (i f : ℕ) → itemAt rack i ≡ I.Function f → HasTwo rack i f (sizeAt rack i) → Here (i - 1) → Here (i - 1 - sizeAt rack (i - 1)) → Here i
   two-here i f is h (t, l) (s, m) =
       let n = root-size (i - 1) t l in
       let k = root-size (i - 1 - sizeAt rack (i - 1)) s m in
@@ -123,17 +123,21 @@ module _ (rack : List Node) where
       let whole : sizeAt rack i ≡ size s + size t + 1 = omega (arith, h .whole) in
       (two f s t, (h .low, h .high, fits, holds i (I.Function f) (size s + size t + 1) is whole, subst (λ j. Lies rack (i - 1 - j) s) n m, l))
 
-  here-as : (i : ℕ) (x : Item) → itemAt rack i ≡ x → SoundAs rack i x → ((j : ℕ) → j < i → Here j) → Here i
+  here-as : (i : ℕ) (x : Item) → itemAt rack i ≡ x → Heads rack i x (sizeAt rack i) → ((j : ℕ) → j < i → Here j) → Here i
   here-as i (I.Name n) is (proper, one-node) earlier = name-here i n is proper one-node
   here-as i (I.Function f) is sound earlier =
       ⊎-elim
-      (λ (h : HasOne rack i f). one-here i f is h (earlier (i - 1) (omega (arith, h .operand))))
-      (λ (h : HasTwo rack i f). two-here i f is h (earlier (i - 1) (omega (arith, h .operands))) (earlier (i - 1 - sizeAt rack (i - 1)) (omega (arith, h .operands))))
+      (λ (h : HasOne rack i f (sizeAt rack i)). one-here i f is h (earlier (i - 1) (omega (arith, h .operand))))
+      (λ (h : HasTwo rack i f (sizeAt rack i)). two-here i f is h (earlier (i - 1) (omega (arith, h .operands))) (earlier (i - 1 - sizeAt rack (i - 1)) (omega (arith, h .operands))))
       sound
 
   pub here : (n i : ℕ) → i < n → SoundBelow rack n → Here i
   here zero i lt sound = absurd (omega arith)
   here (suc n) i lt sound = here-as i (itemAt rack i) refl (sound i lt) (λ j below. here n j (omega arith) (λ k less. sound k (omega arith)))
+
+  -- so sizes are small
+  pub size-within : (n i : ℕ) → i < n → SoundBelow rack n → sizeAt rack i ≤ i + 1
+  size-within n i lt sound = let h = here n i lt sound in omega (arith, root-size i (h .0) (h .1), begins i (h .0) (h .1))
 
 pub one-tree-lies : (rack : List Node) (root : ℕ) → SoundBelow rack (root + 1) → (tree : Tree) × Only (Lies rack root) tree
 one-tree-lies rack root sound =

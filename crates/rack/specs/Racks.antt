@@ -32,26 +32,27 @@ module _ (rack : List Node) where
   abbrev pub sizeAt : ℕ → ℕ
   sizeAt i = getD rack i blank .size
 
-  -- the function f at i takes one operand, whose root is right before it
-  pub record HasOne (i f : ℕ) : Type 0 where
+  -- the function f at i heads a tree of n nodes: its one operand's root is right before it
+  pub record HasOne (i f n : ℕ) : Type 0 where
     pub function : f < 32
     pub operand : 0 < i
-    pub whole : sizeAt i ≡ sizeAt (i - 1) + 1
+    pub whole : n ≡ sizeAt (i - 1) + 1
 
-  -- it takes two: the root of the second is right before it, that of the first right before the second's nodes
-  pub record HasTwo (i f : ℕ) : Type 0 where
+  -- or the root of its second operand is right before it, and that of its first right before the second's nodes
+  pub record HasTwo (i f n : ℕ) : Type 0 where
     pub low : 32 ≤ f
     pub high : f < 64
     pub operands : sizeAt (i - 1) < i
-    pub whole : sizeAt i ≡ sizeAt (i - 1 - sizeAt (i - 1)) + sizeAt (i - 1) + 1
+    pub whole : n ≡ sizeAt (i - 1 - sizeAt (i - 1)) + sizeAt (i - 1) + 1
 
-  abbrev pub SoundAs : ℕ → Item → Type 0
-  SoundAs i (I.Name n) = ProperName n × (sizeAt i ≡ 1)
-  SoundAs i (I.Function f) = HasOne i f ⊎ HasTwo i f
+  -- what stands at i heads a tree of n nodes, as the nodes before it tell
+  abbrev pub Heads : ℕ → Item → ℕ → Type 0
+  Heads i (I.Name w) n = ProperName w × (n ≡ 1)
+  Heads i (I.Function f) n = HasOne i f n ⊎ HasTwo i f n
 
-  -- the node at i is as the rules say, given the nodes before it
+  -- the node at i obeys the rules: it holds the size of the tree that it heads
   abbrev pub Sound : ℕ → Type 0
-  Sound i = SoundAs i (itemAt i)
+  Sound i = Heads i (itemAt i) (sizeAt i)
 
   abbrev pub SoundBelow : ℕ → Type 0
   SoundBelow n = (i : ℕ) → i < n → Sound i
@@ -80,6 +81,15 @@ module _ (rack : List Node) where
   AtTree used root rule =
       If (NoRoot used root) (Refused (fault NoSuchRoot 0))
       (IfSome (FirstUnsound root) (λ i. Refused (fault MalformedRack i)) (λ r. (tree : Tree) × Lies root tree × rule tree r))
+
+-- what holds where such a call refuses neither: the tree of n nodes is the only one that lies at the root
+pub record Rooted (rack : List Node) (used root n : ℕ) : Type 0 where
+  pub inUse : root < used
+  pub within : root < room rack
+  pub tree : Tree
+  pub lies : Only (Lies rack root) tree
+  pub nodes : n ≡ size tree
+  pub begins : n ≤ root + 1
 
 -- The laws. Where all nodes up to a root are sound, exactly one tree lies there.
 abbrev pub OneTreeLies : Type 0

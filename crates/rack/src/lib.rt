@@ -1,4 +1,5 @@
 // The rack: nodes that hold trees in postorder, and what is worked out over them.
+mod checking;
 mod fill;
 mod filling;
 mod name;
@@ -6,6 +7,7 @@ mod node;
 mod spelling;
 mod theorems;
 
+pub use checking::check_tree;
 pub use fill::Fill;
 pub use fill::RACK_NODES;
 pub use name::MAX_NAME_BYTES;
