@@ -14,9 +14,11 @@ use Rattle.tokens.specs.declared.fault.FaultKind.the-variants.{NoSuchRoot, Malf
 use Rattle.tokens.proofs.Firsts.{if-one, if-some-one}
 use Rattle.grammar.specs.Trees.{Tree}
 use Rattle.rack.specs.declared.node.Node.{Node}
-use Rattle.rack.specs.Nodes.{size, room}
+use Rattle.rack.specs.Nodes.{size, nodesOf, room}
 use Rattle.rack.specs.Racks.{sizeAt, SoundBelow, FirstUnsound, Lies, NoRoot, AtTree, Rooted}
-use Rattle.rack.proofs.Lying.{root-size, begins, lies-one, one-tree-lies}
+use lib.ListN.{take, drop}
+use Rattle.rack.proofs.Postorder.{lies-part}
+use Rattle.rack.proofs.Lying.{size-some, root-size, begins, lies-one, one-tree-lies}
 
 module _ (rack : List Node) where
   not-before : (root i j : ℕ) → FirstUnsound rack root i → FirstUnsound rack root j → i < j → ⊥
@@ -56,7 +58,7 @@ module _ (rack : List Node) where
   rooted used root in-use within sound =
       let t = one-tree-lies rack root sound in
       let n = root-size rack root (t .0) (t .1 .is) in
-      record { inUse = in-use; within = within; tree = t .0; lies = t .1; nodes = n; begins = omega (arith, begins rack root (t .0) (t .1 .is)) }
+      record { inUse = in-use; within = within; sound = sound; tree = t .0; lies = t .1; nodes = n; some = omega (arith, size-some (t .0)); begins = omega (arith, begins rack root (t .0) (t .1 .is)) }
 
 pub accepted-one : {T : Type 0} (x : T) (r s : Result T Fault) → Accepted x r → Accepted x s → r ≡ s
 accepted-one x r s p q = p ∙ sym q
@@ -70,3 +72,26 @@ module _ (rack : List Node) (used root : ℕ) (in-use : root < used) (within : r
   size-only =
       at-tree-only rack used root (λ tree. Accepted (size tree)) (λ tree r s. accepted-one (size tree) r s) (Ok (sizeAt rack root))
       (at-tree rack used root (λ tree. Accepted (size tree)) has-root sound (Ok (sizeAt rack root)) (λ tree l. ap Ok (root-size rack root tree l)))
+
+-- a root that was not refused
+module _ (rack : List Node) (used root n : ℕ) (rooted : Rooted rack used root n) where
+  -- any tree there has n nodes, and they are the part of the rack that ends at the root
+  pub rooted-size : (t : Tree) → Lies rack root t → n ≡ size t
+  rooted-size t l = rooted .nodes ∙ ap size (sym (rooted .lies .only t l))
+
+  pub rooted-part : (t : Tree) → Lies rack root t → take (root + 1 - (root + 1 - n)) (drop (root + 1 - n) rack) ≡ nodesOf t
+  rooted-part t l =
+      let s = rooted-size t l in
+      let long : root + 1 - (root + 1 - n) ≡ size t = omega (arith, rooted .begins) in
+      (λ j. take (long j) (drop (root + 1 - s j) rack)) ∙ lies-part rack root t l
+
+  -- what a call answers by its rule for the tree
+  pub rooted-only : {T : Type 0} (rule : Tree → Result T Fault → Type 0) → ((tree : Tree) (r s : Result T Fault) → rule tree r → rule tree s → r ≡ s) → (r : Result T Fault) → ((tree : Tree) → Lies rack root tree → rule tree r) → Only (AtTree rack used root rule) r
+  rooted-only rule one-answer r h =
+      at-tree-only rack used root rule one-answer r (at-tree rack used root rule (has-root rack used root (rooted .inUse) (rooted .within) (rooted .sound)) (rooted .sound) r h)
+
+-- what one call refused, another that asks the same first refuses too
+pub at-refused : {S T : Type 0} (rack : List Node) (used root : ℕ) (x : Tree → S) (rule : Tree → Result T Fault → Type 0) (f : Fault) → AtTree rack used root (λ tree. Accepted (x tree)) (Err f) → AtTree rack used root rule (Err f)
+at-refused {S} rack used root x rule f (inl (out, is)) = inl (out, let same : f ≡ fault NoSuchRoot 0 = cc in ap Err same)
+at-refused {S} rack used root x rule f (inr (has, inl (i, first, is))) = inr (has, inl (i, first, let same : f ≡ fault MalformedRack i = cc in ap Err same))
+at-refused {S} rack used root x rule f (inr (has, inr (sound, (tree, l, is)))) = let z : _≡_ {A = ℕ} 0 1 = cc in absurd (omega arith)

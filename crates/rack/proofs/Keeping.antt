@@ -30,7 +30,7 @@ module _ (rack : List Node) where
       let k = root-size rack i (two f s t) l in
       subst (λ (x : Item). Heads rack i x (sizeAt rack i)) (sym (two-item rack i f s t l)) (inr (record { low = l .0; high = l .1; operands = omega (arith, size-some s, l .2); whole = omega arith }))
 
-  tree-sound : (i : ℕ) (t : Tree) → Lies rack i t → (j : ℕ) → i < j + size t → j < i + 1 → Sound rack j
+  pub tree-sound : (i : ℕ) (t : Tree) → Lies rack i t → (j : ℕ) → i < j + size t → j < i + 1 → Sound rack j
   tree-sound i (name w) l j from to = let at : i ≡ j = omega arith in subst (Sound rack) at (root-sound i (name w) l)
   tree-sound i (one f t) l j from to =
       ⊎-elim

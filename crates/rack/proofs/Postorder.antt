@@ -1,19 +1,18 @@
 -- The nodes of a tree that lies in a rack are consecutive.
 use mathlib.Core.Path.{_≡_, refl, sym, ap, subst, _∙_}
-use mathlib.Core.Logic.{_⊎_, inl, inr, ⊎-elim}
 use mathlib.Core.List.{List, [], _∷_, _++_}
 use Prim.Native.Nat.{ℕ, _+_, _-_, _<_, _≤_}
 use native.Mathlib.Omega.{arith}
 use lib.ListN.{length, getD, take, drop}
-use Rattle.std.proofs.shelf.Lists.{getD-append-left, getD-append-add, getD-append-right, length-append, length-push, take-at}
+use Rattle.std.proofs.shelf.Lists.{length-append, length-push, take-at}
 use Rattle.std.proofs.shelf.Fronts.{at-from-reads}
-use Rattle.std.proofs.shelf.Tests.{cases-lt}
 use Rattle.grammar.specs.Trees.{Tree}
 use Rattle.grammar.specs.Trees.Tree.{name, one, two}
 use Rattle.rack.specs.declared.node.Node.{Node}
 use Rattle.rack.specs.Nodes.{size, nameNode, functionNode, nodesOf, blank, room, LiesFrom}
 use Rattle.rack.specs.Racks.{ProperTree, Lies, EndsAt}
 use Rattle.rack.proofs.Lying.{size-some, begins, inside}
+use Rattle.rack.proofs.Standing.{Stand, stand-join, stand-left, stand-right, stand-one, one-stands}
 
 pub nodes-long : (t : Tree) → length (nodesOf t) ≡ size t
 nodes-long (name w) = refl
@@ -22,76 +21,45 @@ nodes-long (two f s t) =
     omega (arith, length-append (nodesOf s) (nodesOf t ++ (functionNode f (size s + size t + 1) ∷ [])), length-push (nodesOf t) (functionNode f (size s + size t + 1)), nodes-long s, nodes-long t)
 
 module _ (rack : List Node) where
-  -- the nodes stand in the rack from `from` on
-  abbrev pub Stand : ℕ → List Node → Type 0
-  Stand from xs = (k : ℕ) → k < length xs → getD rack (from + k) blank ≡ getD xs k blank
-
-  stand-join : (from : ℕ) (xs ys : List Node) → Stand from xs → Stand (from + length xs) ys → Stand from (xs ++ ys)
-  stand-join from xs ys p q k lt =
-      ⊎-elim
-      (λ left. p k left ∙ sym (getD-append-left xs ys blank k left))
-      (λ right.
-      let at : from + length xs + (k - length xs) ≡ from + k = omega arith in
-      let within : k - length xs < length ys = omega (arith, length-append xs ys) in
-      ap (λ j. getD rack j blank) (sym at) ∙ q (k - length xs) within ∙ sym (getD-append-right xs ys (length xs) k blank refl right))
-      (cases-lt k (length xs))
-
-  stand-left : (from : ℕ) (xs ys : List Node) → Stand from (xs ++ ys) → Stand from xs
-  stand-left from xs ys h k lt = h k (omega (arith, length-append xs ys)) ∙ getD-append-left xs ys blank k lt
-
-  stand-right : (from : ℕ) (xs ys : List Node) → Stand from (xs ++ ys) → Stand (from + length xs) ys
-  stand-right from xs ys h k lt =
-      let at : from + (length xs + k) ≡ from + length xs + k = omega arith in
-      ap (λ j. getD rack j blank) (sym at) ∙ h (length xs + k) (omega (arith, length-append xs ys)) ∙ getD-append-add xs ys k blank
-
-  stand-one : (from i : ℕ) (x : Node) → from ≡ i → getD rack i blank ≡ x → Stand from (x ∷ [])
-  stand-one from i x at is k lt =
-      let first : k ≡ 0 = omega arith in
-      let place : from + k ≡ i = omega arith in
-      ap (λ j. getD rack j blank) place ∙ is ∙ ap (λ j. getD (x ∷ []) j blank) (sym first)
-
-  one-stands : (from i : ℕ) (x : Node) → from ≡ i → Stand from (x ∷ []) → getD rack i blank ≡ x
-  one-stands from i x at h = let place : from + 0 ≡ i = omega arith in ap (λ j. getD rack j blank) (sym place) ∙ h 0 (omega arith)
-
-  pub lies-stand : (from i : ℕ) (t : Tree) → from + size t ≡ i + 1 → Lies rack i t → Stand from (nodesOf t)
-  lies-stand from i (name w) at (short, is) = stand-one from i (nameNode w) (omega arith) is
+  pub lies-stand : (from i : ℕ) (t : Tree) → from + size t ≡ i + 1 → Lies rack i t → Stand blank rack from (nodesOf t)
+  lies-stand from i (name w) at (short, is) = stand-one blank rack from i (nameNode w) (omega arith) is
   lies-stand from i (one f t) at (f<, fits, is, l) =
       let n = nodes-long t in
-      stand-join from (nodesOf t) (functionNode f (size t + 1) ∷ [])
+      stand-join blank rack from (nodesOf t) (functionNode f (size t + 1) ∷ [])
       (lies-stand from (i - 1) t (omega (arith, size-some t)) l)
-      (stand-one (from + length (nodesOf t)) i (functionNode f (size t + 1)) (omega arith) is)
+      (stand-one blank rack (from + length (nodesOf t)) i (functionNode f (size t + 1)) (omega arith) is)
   lies-stand from i (two f s t) at (f≥, f<, fits, is, l, m) =
       let n = nodes-long s in
       let k = nodes-long t in
       let root = functionNode f (size s + size t + 1) in
-      stand-join from (nodesOf s) (nodesOf t ++ (root ∷ []))
+      stand-join blank rack from (nodesOf s) (nodesOf t ++ (root ∷ []))
       (lies-stand from (i - 1 - size t) s (omega (arith, size-some s)) l)
-      (stand-join (from + length (nodesOf s)) (nodesOf t) (root ∷ [])
+      (stand-join blank rack (from + length (nodesOf s)) (nodesOf t) (root ∷ [])
       (lies-stand (from + length (nodesOf s)) (i - 1) t (omega (arith, size-some t)) m)
-      (stand-one (from + length (nodesOf s) + length (nodesOf t)) i root (omega arith) is))
+      (stand-one blank rack (from + length (nodesOf s) + length (nodesOf t)) i root (omega arith) is))
 
-  pub stand-lies : (from i : ℕ) (t : Tree) → from + size t ≡ i + 1 → ProperTree t → Stand from (nodesOf t) → Lies rack i t
-  stand-lies from i (name w) at short h = (short, one-stands from i (nameNode w) (omega arith) h)
+  pub stand-lies : (from i : ℕ) (t : Tree) → from + size t ≡ i + 1 → ProperTree t → Stand blank rack from (nodesOf t) → Lies rack i t
+  stand-lies from i (name w) at short h = (short, one-stands blank rack from i (nameNode w) (omega arith) h)
   stand-lies from i (one f t) at (f<, proper) h =
       let n = nodes-long t in
       let root = functionNode f (size t + 1) in (
         f<,
         omega arith,
-        one-stands (from + length (nodesOf t)) i root (omega arith) (stand-right from (nodesOf t) (root ∷ []) h),
-        stand-lies from (i - 1) t (omega (arith, size-some t)) proper (stand-left from (nodesOf t) (root ∷ []) h),
+        one-stands blank rack (from + length (nodesOf t)) i root (omega arith) (stand-right blank rack from (nodesOf t) (root ∷ []) h),
+        stand-lies from (i - 1) t (omega (arith, size-some t)) proper (stand-left blank rack from (nodesOf t) (root ∷ []) h),
       )
   stand-lies from i (two f s t) at (f≥, f<, p, q) h =
       let n = nodes-long s in
       let k = nodes-long t in
       let root = functionNode f (size s + size t + 1) in
-      let rest = stand-right from (nodesOf s) (nodesOf t ++ (root ∷ [])) h in
+      let rest = stand-right blank rack from (nodesOf s) (nodesOf t ++ (root ∷ [])) h in
       let later = from + length (nodesOf s) in (
         f≥,
         f<,
         omega arith,
-        one-stands (later + length (nodesOf t)) i root (omega arith) (stand-right later (nodesOf t) (root ∷ []) rest),
-        stand-lies from (i - 1 - size t) s (omega (arith, size-some s)) p (stand-left from (nodesOf s) (nodesOf t ++ (root ∷ [])) h),
-        stand-lies later (i - 1) t (omega (arith, size-some t)) q (stand-left later (nodesOf t) (root ∷ []) rest),
+        one-stands blank rack (later + length (nodesOf t)) i root (omega arith) (stand-right blank rack later (nodesOf t) (root ∷ []) rest),
+        stand-lies from (i - 1 - size t) s (omega (arith, size-some s)) p (stand-left blank rack from (nodesOf s) (nodesOf t ++ (root ∷ [])) h),
+        stand-lies later (i - 1) t (omega (arith, size-some t)) q (stand-left blank rack later (nodesOf t) (root ∷ []) rest),
       )
 
   pub proper-tree : (i : ℕ) (t : Tree) → Lies rack i t → ProperTree t

@@ -82,13 +82,15 @@ module _ (rack : List Node) where
       If (NoRoot used root) (Refused (fault NoSuchRoot 0))
       (IfSome (FirstUnsound root) (λ i. Refused (fault MalformedRack i)) (λ r. (tree : Tree) × Lies root tree × rule tree r))
 
--- what holds where such a call refuses neither: the tree of n nodes is the only one that lies at the root
+-- what holds where such a call refuses neither: one tree lies at the root, and has n nodes
 pub record Rooted (rack : List Node) (used root n : ℕ) : Type 0 where
   pub inUse : root < used
   pub within : root < room rack
+  pub sound : SoundBelow rack (root + 1)
   pub tree : Tree
   pub lies : Only (Lies rack root) tree
   pub nodes : n ≡ size tree
+  pub some : 0 < n
   pub begins : n ≤ root + 1
 
 -- The laws. Where all nodes up to a root are sound, exactly one tree lies there.

@@ -17,7 +17,7 @@ use tokens::Fault;
 use tokens::FaultKind;
 
 // Functions below this one take one operand, those from it on two.
-const FIRST_OF_TWO_OPERANDS: u8 = 32;
+pub(crate) const FIRST_OF_TWO_OPERANDS: u8 = 32;
 
 // The number of functions.
 const FUNCTIONS: u8 = 64;

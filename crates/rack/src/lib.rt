@@ -4,6 +4,8 @@ mod fill;
 mod filling;
 mod name;
 mod node;
+mod reckoning;
+mod rules;
 mod spelling;
 mod theorems;
 
@@ -14,6 +16,8 @@ pub use name::MAX_NAME_BYTES;
 pub use name::Name;
 pub use node::Item;
 pub use node::Node;
+pub use reckoning::reckon;
+pub use rules::Rules;
 pub use theorems::later_nodes_do_not_matter;
 pub use theorems::lies_consecutively;
 pub use theorems::lies_where_put;
