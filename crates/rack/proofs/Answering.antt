@@ -90,8 +90,17 @@ module _ (rack : List Node) (used root n : ℕ) (rooted : Rooted rack used root 
   rooted-only rule one-answer r h =
       at-tree-only rack used root rule one-answer r (at-tree rack used root rule (has-root rack used root (rooted .inUse) (rooted .within) (rooted .sound)) (rooted .sound) r h)
 
--- what one call refused, another that asks the same first refuses too
-pub at-refused : {S T : Type 0} (rack : List Node) (used root : ℕ) (x : Tree → S) (rule : Tree → Result T Fault → Type 0) (f : Fault) → AtTree rack used root (λ tree. Accepted (x tree)) (Err f) → AtTree rack used root rule (Err f)
-at-refused {S} rack used root x rule f (inl (out, is)) = inl (out, let same : f ≡ fault NoSuchRoot 0 = cc in ap Err same)
-at-refused {S} rack used root x rule f (inr (has, inl (i, first, is))) = inr (has, inl (i, first, let same : f ≡ fault MalformedRack i = cc in ap Err same))
-at-refused {S} rack used root x rule f (inr (has, inr (sound, (tree, l, is)))) = let z : _≡_ {A = ℕ} 0 1 = cc in absurd (omega arith)
+-- A call that asks another first answers from what that answered: the same refusals, and else by its own rule for the tree.
+module _ {S T : Type 0} (rack : List Node) (used root : ℕ) (rule : Tree → Result S Fault → Type 0) (own : Tree → Result T Fault → Type 0) where
+  pub at-changed : (r : Result S Fault) (s : Result T Fault) → ((f : Fault) → r ≡ Err f → s ≡ Err f) → ((tree : Tree) → Lies rack root tree → rule tree r → own tree s) → AtTree rack used root rule r → AtTree rack used root own s
+  at-changed r s refusals answers =
+      ⊎-elim
+      (λ (out, is). inl (out, refusals (fault NoSuchRoot 0) is))
+      (λ (has, rest).
+      inr (
+        has,
+        ⊎-elim
+            (λ (i, first, is). inl (i, first, refusals (fault MalformedRack i) is))
+            (λ (sound, (tree, l, h)). inr (sound, (tree, l, answers tree l h)))
+            rest,
+      ))

@@ -1,6 +1,7 @@
 pub mod Answering
 pub mod Keeping
 pub mod Lying
+pub mod Members
 pub mod Postorder
 pub mod Readable
 pub mod Standing

@@ -8,6 +8,7 @@ use lib.ListN.{length, getD, set, take, drop}
 use Rattle.std.proofs.shelf.Lists.{length-append, length-push, getD-append-left, getD-default, getD-take, take-append-drop, take-all, take-more, take-more-set, drop-drop, drop-set-lt}
 use Rattle.std.proofs.shelf.Tests.{cases-lt}
 use Rattle.std.specs.declared.result.Result.{Result}
+use Rattle.std.specs.declared.result.Result.the-variants.{Ok}
 use Rattle.tokens.specs.Faults.{fault}
 use Rattle.tokens.specs.InOrder.{Refused, Accepted}
 use Rattle.tokens.specs.declared.fault.Fault.{Fault}
@@ -165,11 +166,15 @@ module _ {V : Type 0} (m : Meaning V) where
       ∙ (λ j. (h .front tree proper is ∙ take-all i (valuesOf m tree) (omega (arith, values-long tree))) j ++ (h .rest ∙ ap (λ k. drop k before) at) j)
 
   -- the value of the tree is the last of its values
-  pub last-value : (t : Tree) (rest : List V) (n : ℕ) (d : V) → n ≡ size t → getD (valuesOf m t ++ rest) (n - 1) d ≡ fold m t
+  last-value : (t : Tree) (rest : List V) (n : ℕ) (d : V) → n ≡ size t → getD (valuesOf m t ++ rest) (n - 1) d ≡ fold m t
   last-value t rest n d is =
       let some = size-some t in
       let long = values-long t in
       getD-append-left (valuesOf m t) rest d (n - 1) (omega arith) ∙ value-root d (valuesOf m t) 0 (n - 1) t (omega arith) (stand-whole d (valuesOf m t))
+
+  pub reckoned : (t : Tree) (before after : List V) (n : ℕ) (v : V) → n ≡ size t → after ≡ valuesOf m t ++ drop (size t) before → v ≡ getD after (n - 1) v → n ≤ length before → ValueOf m (length before) t (Ok v)
+  reckoned t before after n v is stored last enough =
+      inr (λ few. omega arith, ap Ok (last ∙ ap (λ (l : List V). getD l (n - 1) v) stored ∙ last-value t (drop (size t) before) n v is))
 
   pub value-one : (n : ℕ) (t : Tree) (r s : Result V Fault) → ValueOf m n t r → ValueOf m n t s → r ≡ s
   value-one n t r s = if-one (n < size t) (Refused (fault TooFewValues 0)) (Accepted (fold m t)) r s (λ p q. p ∙ sym q) (λ p q. p ∙ sym q)

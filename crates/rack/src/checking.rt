@@ -20,7 +20,7 @@ use tokens::FaultKind;
 pub(crate) const FIRST_OF_TWO_OPERANDS: u8 = 32;
 
 // The number of functions.
-const FUNCTIONS: u8 = 64;
+pub(crate) const FUNCTIONS: u8 = 64;
 
 // The size of the tree that the node heads, as the sound nodes before it tell, or none if it heads none.
 fn headed_size(rack: &[Node], at: usize) -> Option<usize>

@@ -2,6 +2,8 @@
 mod checking;
 mod fill;
 mod filling;
+mod function_bits;
+mod function_set;
 mod name;
 mod node;
 mod reckoning;
@@ -12,6 +14,8 @@ mod theorems;
 pub use checking::check_tree;
 pub use fill::Fill;
 pub use fill::RACK_NODES;
+pub use function_bits::functions;
+pub use function_set::FunctionSet;
 pub use name::MAX_NAME_BYTES;
 pub use name::Name;
 pub use node::Item;

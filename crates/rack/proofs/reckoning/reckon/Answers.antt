@@ -8,10 +8,10 @@ use Rattle.std.specs.declared.result.Result.the-variants.{Ok}
 use Rattle.rack.specs.declared.node.Node.{Node}
 use Rattle.rack.specs.Nodes.{size}
 use Rattle.rack.specs.Racks.{SoundBelow}
-use Rattle.rack.specs.Reckoning.{ValueOf}
+use Rattle.rack.specs.Reckoning.{ValueOf, Valued}
 use Rattle.rack.proofs.Answering.{rooted-size, rooted-part, rooted-only}
 use Rattle.rack.proofs.Postorder.{nodes-long, proper-tree}
-use Rattle.rack.proofs.Valuing.{sound-alone, last-value, value-one}
+use Rattle.rack.proofs.Valuing.{sound-alone, reckoned, value-one}
 use Rattle.rack.proofs.reckoning.reckon.Needs as need
 
 pub store-values-requires : need.store-values-requires
@@ -33,10 +33,9 @@ returns g c =
     let root = c .args .root in
     let n = c .in-Continue-size .size in
     let rooted = c .in-Continue-size .ensures tt .tree in
+    let stored : Valued m rack root (c .args .values .now) (c .store-values .last .values) = λ tree l. c .store-values .ensures tree (proper-tree rack root tree l) (rooted-part rack used root n rooted tree l) in
     record {
       answer = rooted-only rack used root n rooted (ValueOf m (length (c .args .values .now))) (value-one m (length (c .args .values .now))) _ (λ tree l.
-          let s = rooted-size rack used root n rooted tree l in
-          let stored = c .store-values .ensures tree (proper-tree rack root tree l) (rooted-part rack used root n rooted tree l) in
-          inr (λ few. omega arith, ap Ok (c .index-values-size .is ∙ ap (λ vs. getD vs (n - 1) (c .index-values-size .result)) stored ∙ last-value m tree (drop (size tree) (c .args .values .now)) n (c .index-values-size .result) s)));
-      values = λ tree l. c .store-values .ensures tree (proper-tree rack root tree l) (rooted-part rack used root n rooted tree l);
+          reckoned m tree (c .args .values .now) (c .store-values .last .values) n (c .index-values-size .result) (rooted-size rack used root n rooted tree l) (stored tree l) (c .index-values-size .is) (c .if-values-size .left));
+      values = stored;
     }
