@@ -1,6 +1,7 @@
 // The rack: nodes that hold trees in postorder, and what is worked out over them.
 mod fill;
 mod name;
+mod naming;
 mod node;
 
 pub use fill::Fill;
