@@ -1,1 +1,3 @@
+pub mod Between
 pub mod Waiting
+pub mod Yard

@@ -1,5 +1,12 @@
 // The reader: an expression becomes a tree in the rack, or the one fault that the rules give it.
+mod neighbours;
 mod reader;
+mod refusals;
+mod settling;
+mod storing;
 mod waiting;
 
+pub use neighbours::left_limit;
+pub use neighbours::right_limit;
+pub use neighbours::taker_between;
 pub use reader::Reader;

@@ -1,6 +1,7 @@
 // The reader and its working memory, which is reserved when the reader is made.
 ghost use Prim.Native.Nat.{_≤_};
 ghost use Rattle.std.specs.Of.Vec.{vec-cap};
+use grammar::Due;
 
 // What waits for its right operand, whose nodes begin at `from`: a bracket that is open, or an operator.
 #[derive(Clone, Copy)]
@@ -14,4 +15,11 @@ pub(crate) enum Pending {
 pub struct Reader {
     pub(crate) pending: Vec<Pending>,
     ghost reserved: { 1024 ≤ vec-cap pending },
+}
+
+// Where reading goes on: what is due next, and where the next node goes.
+#[derive(Clone, Copy)]
+pub(crate) struct Next {
+    pub(crate) due: Due,
+    pub(crate) at: usize,
 }
