@@ -1,3 +1,5 @@
+pub mod Bounds
 pub mod Deciding
+pub mod NameTests
 pub mod Stacks
 pub mod Turns

@@ -46,6 +46,12 @@ pub data Yard : Type 0 where
 abbrev pub stored : List Node → ℕ → Node → List Node
 stored rack n node = cond (ltb n (room rack)) (set rack n node) rack
 
+-- a word or a symbol where an operand is due: the prefix operator that is listed under it, else the name that it is
+abbrev pub begun : List ℕ → Option ℕ → Bool → List Pending → List Node → ℕ → Yard
+begun w (Some f) name k rack n = stands Operand (site (P.Operator f n ∷ k) rack n)
+begun w None true k rack n = stands Operator (site k (stored rack n (nameNode w)) (n + 1))
+begun w None false k rack n = refused
+
 -- `)` where no operator waits since the latest bracket
 abbrev pub shut : List Pending → List Node → ℕ → Yard
 shut [] rack n = refused
@@ -88,12 +94,6 @@ module _ (mark : ℕ) where
   standing (Some postfix) f (Some s) = stands Operator (site (s .waiting) (covered f (s .waiting) (s .rack) (s .next)) (s .next + 1))
   standing (Some between) f None = refused
   standing (Some between) f (Some s) = stands Operand (site (P.Operator f (s .next) ∷ s .waiting) (s .rack) (s .next))
-
-  -- a word or a symbol where an operand is due: the prefix operator that is listed under it, else the name that it is
-  abbrev pub begun : List ℕ → Option ℕ → Bool → List Pending → List Node → ℕ → Yard
-  begun w (Some f) name k rack n = stands Operand (site (P.Operator f n ∷ k) rack n)
-  begun w None true k rack n = stands Operator (site k (stored rack n (nameNode w)) (n + 1))
-  begun w None false k rack n = refused
 
   module _ (t : Table) where
     -- those that wait and take the operand before the operator o take it

@@ -3,6 +3,7 @@ mod neighbours;
 mod reader;
 mod refusals;
 mod settling;
+mod steps;
 mod storing;
 mod waiting;
 
