@@ -1,3 +1,4 @@
 pub mod Between
+pub mod Outside
 pub mod Waiting
 pub mod Yard

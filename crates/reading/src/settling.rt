@@ -4,6 +4,7 @@ ghost use Prim.Native.Nat.{_+_, _^_, _<_};
 ghost use lib.ListN.{length};
 ghost use Rattle.notation.specs.Operators.{meant};
 ghost use Rattle.grammar.specs.Weights.{operatorIn};
+ghost use Rattle.reading.specs.Outside.{SameOutside};
 ghost use Rattle.reading.specs.Waiting.{waiting};
 ghost use Rattle.reading.specs.Yard.{site, sited, settled, unwound};
 use crate::neighbours::taker_between;
@@ -33,7 +34,8 @@ impl Reader {
     // neither neighbour may take the operand between them.
     pub(crate) fn settle<N: Notation>(&mut self, notation: &N, rack: &mut [Node], mark: usize, at: usize, right: Operator<'_>) -> Option<usize>
         requires { ⌜ at + length (waiting (now self)) < 2 ^ 32 ⌝ }
-        ensures { λ r. ⌜ sited r (waiting (now (self .exit))) (now (rack .exit)) ≡ settled mark (N·Notation .table (now (notation .entry))) (meant (right .entry)) (waiting (now (self .entry))) (now (rack .entry)) at ⌝ }
+        ensures state { λ r. ⌜ sited r (waiting (now (self .exit))) (now (rack .exit)) ≡ settled mark (N·Notation .table (now (notation .entry))) (meant (right .entry)) (waiting (now (self .entry))) (now (rack .entry)) at ⌝ }
+        ensures kept { λ _. ⌜ SameOutside at (now (rack .entry)) (now (rack .exit)) ⌝ }
     {
         let mut at = at;
         while let Some(function) = self.last_function() {
@@ -49,7 +51,8 @@ impl Reader {
     // The operators that wait since the latest bracket take their operands; the answer is the next free place.
     pub(crate) fn unwind(&mut self, rack: &mut [Node], mark: usize, at: usize) -> usize
         requires { ⌜ at + length (waiting (now self)) < 2 ^ 32 ⌝ }
-        ensures { λ r. ⌜ site (waiting (now (self .exit))) (now (rack .exit)) r ≡ unwound mark (waiting (now (self .entry))) (now (rack .entry)) at ⌝ }
+        ensures state { λ r. ⌜ site (waiting (now (self .exit))) (now (rack .exit)) r ≡ unwound mark (waiting (now (self .entry))) (now (rack .entry)) at ⌝ }
+        ensures kept { λ _. ⌜ SameOutside at (now (rack .entry)) (now (rack .exit)) ⌝ }
     {
         let mut at = at;
         while let Some(function) = self.last_function() {

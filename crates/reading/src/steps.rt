@@ -11,6 +11,7 @@ ghost use Rattle.notation.specs.Tables.{listed};
 ghost use Rattle.grammar.specs.Machine.{isName};
 ghost use Rattle.grammar.specs.Weights.{fixityIn, operatorIn};
 ghost use Rattle.rack.specs.Nodes.{nameNode};
+ghost use Rattle.reading.specs.Outside.{SameOutside};
 ghost use Rattle.reading.specs.Waiting.{waiting};
 ghost use Rattle.reading.specs.Yard.{site, stored, unwound, shutAt, overAt, sited, told, settled, standing, operandStep, operatorStep, stands, step};
 use crate::reader::Next;
@@ -29,7 +30,8 @@ use tokens::Token;
 fn put_name<N: Notation>(notation: &N, rack: &mut [Node], at: usize, word: &[u8]) -> Option<usize>
     requires bound { ⌜ at < 2 ^ 32 ⌝ }
     requires unlisted { ⌜ listed (N·Notation .table (now notation)) Before (now word) ≡ None ⌝ }
-    ensures { λ r. ⌜ Cases r (isName (N·Notation .table (now (notation .entry))) (now (word .entry)) ≡ false) (λ next. (isName (N·Notation .table (now (notation .entry))) (now (word .entry)) ≡ true) × (next ≡ at + 1) × (now (rack .exit) ≡ stored (now (rack .entry)) at (nameNode (now (word .entry))))) ⌝ }
+    ensures answer { λ r. ⌜ Cases r (isName (N·Notation .table (now (notation .entry))) (now (word .entry)) ≡ false) (λ next. (isName (N·Notation .table (now (notation .entry))) (now (word .entry)) ≡ true) × (next ≡ at + 1) × (now (rack .exit) ≡ stored (now (rack .entry)) at (nameNode (now (word .entry))))) ⌝ }
+    ensures kept { λ _. ⌜ SameOutside at (now (rack .entry)) (now (rack .exit)) ⌝ }
 {
     if notation.after(word).is_some() {
         return None;
@@ -45,7 +47,8 @@ impl Reader {
     fn operand<N: Notation>(&mut self, notation: &N, rack: &mut [Node], mark: usize, at: usize, token: Token<'_>) -> Option<Next>
         requires bound { ⌜ at < 2 ^ 32 ⌝ }
         requires room { ⌜ length (waiting (now self)) < 1024 ⌝ }
-        ensures { λ r. ⌜ told r (waiting (now (self .exit))) (now (rack .exit)) ≡ operandStep mark (N·Notation .table (now (notation .entry))) (placed (token .entry) .kind) (placed (token .entry) .bytes) (waiting (now (self .entry))) (now (rack .entry)) at ⌝ }
+        ensures state { λ r. ⌜ told r (waiting (now (self .exit))) (now (rack .exit)) ≡ operandStep mark (N·Notation .table (now (notation .entry))) (placed (token .entry) .kind) (placed (token .entry) .bytes) (waiting (now (self .entry))) (now (rack .entry)) at ⌝ }
+        ensures kept { λ _. ⌜ SameOutside at (now (rack .entry)) (now (rack .exit)) ⌝ }
     {
         match token {
             Token::Word { bytes, .. } => match notation.before(bytes) {
@@ -75,7 +78,8 @@ impl Reader {
     fn place<N: Notation>(&mut self, notation: &N, rack: &mut [Node], mark: usize, at: usize, function: u8) -> Option<Next>
         requires bound { ⌜ at + length (waiting (now self)) < 2 ^ 32 ⌝ }
         requires room { ⌜ length (waiting (now self)) < 1024 ⌝ }
-        ensures { λ r. ⌜ told r (waiting (now (self .exit))) (now (rack .exit)) ≡ standing mark (fixityIn (N·Notation .table (now (notation .entry))) function) function (settled mark (N·Notation .table (now (notation .entry))) (operatorIn (N·Notation .table (now (notation .entry))) function) (waiting (now (self .entry))) (now (rack .entry)) at) ⌝ }
+        ensures state { λ r. ⌜ told r (waiting (now (self .exit))) (now (rack .exit)) ≡ standing mark (fixityIn (N·Notation .table (now (notation .entry))) function) function (settled mark (N·Notation .table (now (notation .entry))) (operatorIn (N·Notation .table (now (notation .entry))) function) (waiting (now (self .entry))) (now (rack .entry)) at) ⌝ }
+        ensures kept { λ _. ⌜ SameOutside at (now (rack .entry)) (now (rack .exit)) ⌝ }
     {
         let operator = notation.operator(function)?;
         let at = self.settle(notation, rack, mark, at, operator)?;
@@ -95,7 +99,8 @@ impl Reader {
     // A `)` after the current operand: where reading goes on, or none if no bracket is open.
     fn close(&mut self, rack: &mut [Node], mark: usize, at: usize) -> Option<Next>
         requires { ⌜ at + length (waiting (now self)) < 2 ^ 32 ⌝ }
-        ensures { λ r. ⌜ told r (waiting (now (self .exit))) (now (rack .exit)) ≡ shutAt (unwound mark (waiting (now (self .entry))) (now (rack .entry)) at) ⌝ }
+        ensures state { λ r. ⌜ told r (waiting (now (self .exit))) (now (rack .exit)) ≡ shutAt (unwound mark (waiting (now (self .entry))) (now (rack .entry)) at) ⌝ }
+        ensures kept { λ _. ⌜ SameOutside at (now (rack .entry)) (now (rack .exit)) ⌝ }
     {
         let at = self.unwind(rack, mark, at);
         match self.pop() {
@@ -107,7 +112,8 @@ impl Reader {
     // The end after the current operand: the place behind the tree's nodes, or none if a bracket is open.
     pub(crate) fn finish(&mut self, rack: &mut [Node], mark: usize, at: usize) -> Option<usize>
         requires { ⌜ at + length (waiting (now self)) < 2 ^ 32 ⌝ }
-        ensures { λ r. ⌜ sited r (waiting (now (self .exit))) (now (rack .exit)) ≡ overAt (unwound mark (waiting (now (self .entry))) (now (rack .entry)) at) ⌝ }
+        ensures state { λ r. ⌜ sited r (waiting (now (self .exit))) (now (rack .exit)) ≡ overAt (unwound mark (waiting (now (self .entry))) (now (rack .entry)) at) ⌝ }
+        ensures kept { λ _. ⌜ SameOutside at (now (rack .entry)) (now (rack .exit)) ⌝ }
     {
         let at = self.unwind(rack, mark, at);
         match self.top() {
@@ -120,7 +126,8 @@ impl Reader {
     fn operator<N: Notation>(&mut self, notation: &N, rack: &mut [Node], mark: usize, at: usize, token: Token<'_>) -> Option<Next>
         requires bound { ⌜ at + length (waiting (now self)) < 2 ^ 32 ⌝ }
         requires room { ⌜ length (waiting (now self)) < 1024 ⌝ }
-        ensures { λ r. ⌜ told r (waiting (now (self .exit))) (now (rack .exit)) ≡ operatorStep mark (N·Notation .table (now (notation .entry))) (placed (token .entry) .kind) (placed (token .entry) .bytes) (waiting (now (self .entry))) (now (rack .entry)) at ⌝ }
+        ensures state { λ r. ⌜ told r (waiting (now (self .exit))) (now (rack .exit)) ≡ operatorStep mark (N·Notation .table (now (notation .entry))) (placed (token .entry) .kind) (placed (token .entry) .bytes) (waiting (now (self .entry))) (now (rack .entry)) at ⌝ }
+        ensures kept { λ _. ⌜ SameOutside at (now (rack .entry)) (now (rack .exit)) ⌝ }
     {
         match token {
             Token::Word { bytes, .. } | Token::Symbol { bytes, .. } => {
@@ -136,7 +143,8 @@ impl Reader {
     pub(crate) fn advance<N: Notation>(&mut self, notation: &N, rack: &mut [Node], mark: usize, next: Next, token: Token<'_>) -> Option<Next>
         requires bound { ⌜ next .at + length (waiting (now self)) < 2 ^ 32 ⌝ }
         requires room { ⌜ length (waiting (now self)) < 1024 ⌝ }
-        ensures { λ r. ⌜ told r (waiting (now (self .exit))) (now (rack .exit)) ≡ step mark (N·Notation .table (now (notation .entry))) (stands (next .due) (site (waiting (now (self .entry))) (now (rack .entry)) (next .at))) (lexeme (placed (token .entry))) ⌝ }
+        ensures state { λ r. ⌜ told r (waiting (now (self .exit))) (now (rack .exit)) ≡ step mark (N·Notation .table (now (notation .entry))) (stands (next .due) (site (waiting (now (self .entry))) (now (rack .entry)) (next .at))) (lexeme (placed (token .entry))) ⌝ }
+        ensures kept { λ _. ⌜ SameOutside (next .at) (now (rack .entry)) (now (rack .exit)) ⌝ }
     {
         match next.due {
             Due::Operand => self.operand(notation, rack, mark, next.at, token),

@@ -2,6 +2,7 @@
 ghost use mathlib.Core.Path.{_≡_};
 ghost use Prim.Native.Nat.{_+_, _^_, _<_};
 ghost use Rattle.rack.specs.Nodes.{room};
+ghost use Rattle.reading.specs.Outside.{SameOutside};
 ghost use Rattle.reading.specs.Waiting.{waiting, rest};
 ghost use Rattle.reading.specs.Yard.{stored, covered};
 use crate::reader::Reader;
@@ -18,7 +19,8 @@ pub(crate) fn room(rack: &[Node]) -> usize
 
 // Stores the node, if the place is within the rack's room.
 pub(crate) fn put(rack: &mut [Node], place: usize, node: Node)
-    ensures { λ _. ⌜ now (rack .exit) ≡ stored (now (rack .entry)) place node ⌝ }
+    ensures nodes { λ _. ⌜ now (rack .exit) ≡ stored (now (rack .entry)) place node ⌝ }
+    ensures kept { λ _. ⌜ SameOutside place (now (rack .entry)) (now (rack .exit)) ⌝ }
 {
     if place < room(rack) {
         rack[place] = node;
@@ -31,6 +33,7 @@ impl Reader {
         requires { ⌜ at < 2 ^ 32 ⌝ }
         ensures answer { λ r. ⌜ r ≡ at + 1 ⌝ }
         ensures nodes { λ _. ⌜ now (rack .exit) ≡ covered mark function (waiting (now (self .entry))) (now (rack .entry)) at ⌝ }
+        ensures kept { λ _. ⌜ SameOutside at (now (rack .entry)) (now (rack .exit)) ⌝ }
     {
         let item = Item::Function(function);
         let size = at.saturating_sub(self.begins(mark)) + 1;
@@ -44,6 +47,7 @@ impl Reader {
         ensures answer { λ r. ⌜ r ≡ at + 1 ⌝ }
         ensures stack { λ _. ⌜ waiting (now (self .exit)) ≡ rest (waiting (now (self .entry))) ⌝ }
         ensures nodes { λ _. ⌜ now (rack .exit) ≡ covered mark function (rest (waiting (now (self .entry)))) (now (rack .entry)) at ⌝ }
+        ensures kept { λ _. ⌜ SameOutside at (now (rack .entry)) (now (rack .exit)) ⌝ }
     {
         let _ = self.pop();
         self.cover(rack, mark, at, function)
