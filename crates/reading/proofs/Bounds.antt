@@ -107,6 +107,12 @@ module _ (low : ℕ) where
       step-within high (stands Operator s) x h = operator-within high (x .kind) (x .bytes) (s .waiting) (s .rack) (s .next) (h .begun) (h .few)
       step-within high refused x h = tt
 
+      pub run-within : (xs : List Lexeme) (high : ℕ) (y : Yard) → Within low high y → Within low (high + length xs) (run mark t y xs)
+      unfolding run
+      run-within [] high y h = let e : high ≡ high + 0 = omega arith in subst (λ n. Within low n y) e h
+      run-within (x ∷ xs) high y h =
+          let e : high + 1 + length xs ≡ high + length (x ∷ xs) = omega arith in subst (λ n. Within low n (run mark t (step mark t y x) xs)) e (run-within xs (high + 1) (step mark t y x) (step-within high y x h))
+
 -- the site that settling leaves
 pub settled-spans : (mark : ℕ) (t : Table) (o : Op) (k : List Pending) (rack : List Node) (n : ℕ) (s : Site) → Some s ≡ settled mark t o k rack n → Spans n (n + length k) s
 settled-spans mark t o k rack n s e = subst (Reaches n (n + length k)) (sym e) (settled-reaches n mark t (n + length k) o k rack n (omega arith) (omega arith))

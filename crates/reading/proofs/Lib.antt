@@ -1,7 +1,9 @@
+pub mod Agreement
 pub mod Bounds
 pub mod Deciding
 pub mod NameTests
 pub mod Racks
+pub mod Sofar
 pub mod Stacks
 pub mod Turns
 pub mod Views

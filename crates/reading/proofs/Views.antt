@@ -32,7 +32,7 @@ use Rattle.rack.specs.Nodes.{size, functionNode, nameNode, nodesOf}
 use Rattle.reading.specs.declared.reader.Pending.{Pending}
 use Rattle.reading.specs.declared.reader.Pending.the-variants as P
 use Rattle.reading.specs.Waiting.{begins}
-use Rattle.reading.specs.Yard.{Site, site, Yard, stored, shutAt, overAt, decided, covered, unwound, standing, begun, settled, continued, operandStep, operatorStep, step, run}
+use Rattle.reading.specs.Yard.{Site, site, Yard, shutAt, overAt, decided, covered, unwound, finished, standing, begun, settled, continued, operandStep, operatorStep, step, run}
 use Rattle.reading.specs.Yard.Yard.{stands, refused}
 use Rattle.reading.proofs.Racks.{length-nodes, Holding, nothing-put, one-put}
 
@@ -105,12 +105,17 @@ module _ (old : List Node) (mark : ℕ) where
   closed-shows (pending (prefixing f) ∷ k) b rack n h = closed-shows k (prefixed f b) _ _ (one-after f k b rack n h)
   closed-shows (pending (infixing f a) ∷ k) b rack n h = closed-shows k (infixed f a b) _ _ (two-after f a k b rack n h)
 
-  pub ended-finishes : (k : List Frame) (b : Bracketed) (rack : List Node) (n : ℕ) → AtOperator k b rack n → Finishes (M.ended k b) (overAt (unwound mark (waits k) rack n))
+  ended-finishes : (k : List Frame) (b : Bracketed) (rack : List Node) (n : ℕ) → AtOperator k b rack n → Finishes (M.ended k b) (overAt (unwound mark (waits k) rack n))
   unfolding unwound
   ended-finishes [] b rack n h = (rack, n, refl, h)
   ended-finishes (bracket ∷ k) b rack n h = refl
   ended-finishes (pending (prefixing f) ∷ k) b rack n h = ended-finishes k (prefixed f b) _ _ (one-after f k b rack n h)
   ended-finishes (pending (infixing f a) ∷ k) b rack n h = ended-finishes k (infixed f a b) _ _ (two-after f a k b rack n h)
+
+  pub outcome-finishes : (st : State) (y : Yard) → Shows st y → Finishes (M.outcome st) (finished mark y)
+  outcome-finishes (operandDue k) y (rack, n, e, h) = ap (finished mark) e
+  outcome-finishes (operatorDue k b) y (rack, n, e, h) = subst (λ (z : Yard). Finishes (M.ended k b) (finished mark z)) (sym e) (ended-finishes k b rack n h)
+  outcome-finishes M.refused y e = ap (finished mark) e
 
   standing-shows : (x : Option Fixity) (f : ℕ) (k : List Frame) (b : Bracketed) (rack : List Node) (n : ℕ) → AtOperator k b rack n → Shows (M.standing x f k b) (standing mark x f (Some (site (waits k) rack n)))
   standing-shows None f k b rack n h = refl
@@ -160,7 +165,7 @@ module _ (old : List Node) (mark : ℕ) where
     operator-shows Open w k b rack n h = refl
     operator-shows Close w k b rack n h = closed-shows k b rack n h
 
-    step-shows : (st : State) (y : Yard) (x : Lexeme) → Shows st y → Shows (M.step t st x) (step mark t y x)
+    pub step-shows : (st : State) (y : Yard) (x : Lexeme) → Shows st y → Shows (M.step t st x) (step mark t y x)
     step-shows (operandDue k) y x (rack, n, e, h) =
         subst (λ (z : Yard). Shows (M.operandStep t (x .kind) (x .bytes) k) (step mark t z x)) (sym e) (operand-shows (x .kind) (x .bytes) k rack n h)
     step-shows (operatorDue k b) y x (rack, n, e, h) =

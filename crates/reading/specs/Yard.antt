@@ -86,6 +86,12 @@ module _ (mark : ℕ) where
   unwound (P.Bracket m ∷ k) rack n = site (P.Bracket m ∷ k) rack n
   unwound (P.Operator f m ∷ k) rack n = unwound k (covered f k rack n) (n + 1)
 
+  -- the site when the end comes, if the text is finished there
+  abbrev pub finished : Yard → Option Site
+  finished (stands Operand s) = None
+  finished (stands Operator s) = overAt (unwound (s .waiting) (s .rack) (s .next))
+  finished refused = None
+
   -- the operator of f stands at the site, if the operand before it was decided
   abbrev pub standing : Option Fixity → ℕ → Option Site → Yard
   standing None f s = refused

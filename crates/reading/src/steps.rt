@@ -13,7 +13,7 @@ ghost use Rattle.grammar.specs.Weights.{fixityIn, operatorIn};
 ghost use Rattle.rack.specs.Nodes.{nameNode};
 ghost use Rattle.reading.specs.Outside.{SameOutside};
 ghost use Rattle.reading.specs.Waiting.{waiting};
-ghost use Rattle.reading.specs.Yard.{site, stored, unwound, shutAt, overAt, sited, told, settled, standing, operandStep, operatorStep, stands, step};
+ghost use Rattle.reading.specs.Yard.{site, stored, unwound, shutAt, finished, sited, told, settled, standing, operandStep, operatorStep, stands, step};
 use crate::reader::Next;
 use crate::reader::Pending;
 use crate::reader::Reader;
@@ -109,19 +109,6 @@ impl Reader {
         }
     }
 
-    // The end after the current operand: the place behind the tree's nodes, or none if a bracket is open.
-    pub(crate) fn finish(&mut self, rack: &mut [Node], mark: usize, at: usize) -> Option<usize>
-        requires { ⌜ at + length (waiting (now self)) < 2 ^ 32 ⌝ }
-        ensures state { λ r. ⌜ sited r (waiting (now (self .exit))) (now (rack .exit)) ≡ overAt (unwound mark (waiting (now (self .entry))) (now (rack .entry)) at) ⌝ }
-        ensures kept { λ _. ⌜ SameOutside at (now (rack .entry)) (now (rack .exit)) ⌝ }
-    {
-        let at = self.unwind(rack, mark, at);
-        match self.top() {
-            Some(_) => None,
-            None => Some(at),
-        }
-    }
-
     // A token where an operator is due: where reading goes on, or none if the token fails.
     fn operator<N: Notation>(&mut self, notation: &N, rack: &mut [Node], mark: usize, at: usize, token: Token<'_>) -> Option<Next>
         requires bound { ⌜ at + length (waiting (now self)) < 2 ^ 32 ⌝ }
@@ -149,6 +136,21 @@ impl Reader {
         match next.due {
             Due::Operand => self.operand(notation, rack, mark, next.at, token),
             Due::Operator => self.operator(notation, rack, mark, next.at, token),
+        }
+    }
+    // The end where this is due: the place behind the tree's nodes, or none if the end fails.
+    pub(crate) fn finish(&mut self, rack: &mut [Node], mark: usize, next: Next) -> Option<usize>
+        requires { ⌜ next .at + length (waiting (now self)) < 2 ^ 32 ⌝ }
+        ensures state { λ r. ⌜ sited r (waiting (now (self .exit))) (now (rack .exit)) ≡ finished mark (stands (next .due) (site (waiting (now (self .entry))) (now (rack .entry)) (next .at))) ⌝ }
+        ensures kept { λ _. ⌜ SameOutside (next .at) (now (rack .entry)) (now (rack .exit)) ⌝ }
+    {
+        if let Due::Operand = next.due {
+            return None;
+        }
+        let at = self.unwind(rack, mark, next.at);
+        match self.top() {
+            Some(_) => None,
+            None => Some(at),
         }
     }
 }
