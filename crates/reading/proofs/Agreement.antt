@@ -62,7 +62,7 @@ module _ (t : Table) (lawful : LawfulTable t) (text : List ℕ) (rack : List Nod
       record {
         long = both-long a b h k;
         same = λ i d lt. ⊎-elim (λ below. k .below .same i d below ∙ sym (h .below .same i d below))
-          (λ above. let at : fill + (i - fill) ≡ i = omega arith in subst (λ m. getD b m d ≡ getD a m d) at (node-of tree a b p q (i - fill) d (omega arith))) (cases-lt i fill);
+            (λ above. let at : fill + (i - fill) ≡ i = omega arith in subst (λ m. getD b m d ≡ getD a m d) at (node-of tree a b p q (i - fill) d (omega arith))) (cases-lt i fill);
       }
 
   left-same : (o : Result Tree Fault) (r s : Result ℕ Fault) (a b : List Node) (m n : ℕ) → Leaves t text rack fill o r a m → Leaves t text rack fill o s b n → SameOutside fill rack a → SameOutside fill rack b → (s ≡ r) × (n ≡ m) × SameBelow m a b
@@ -76,6 +76,6 @@ module _ (t : Table) (lawful : LawfulTable t) (text : List ℕ) (rack : List Nod
       record {
         is = p;
         only = λ s b n q.
-          let same = one-outcome (q .outcome) (p .outcome) (q .comes) (p .comes) in
-          left-same (p .outcome) r s a b m n (p .leaves) (subst (λ (o : Result Tree Fault). Leaves t text rack fill o s b n) same (q .leaves)) (p .kept) (q .kept);
+            let same = one-outcome (q .outcome) (p .outcome) (q .comes) (p .comes) in
+            left-same (p .outcome) r s a b m n (p .leaves) (subst (λ (o : Result Tree Fault). Leaves t text rack fill o s b n) same (q .leaves)) (p .kept) (q .kept);
       }

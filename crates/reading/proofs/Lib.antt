@@ -1,6 +1,7 @@
 pub mod Agreement
 pub mod Bounds
 pub mod Deciding
+pub mod Endings
 pub mod NameTests
 pub mod Racks
 pub mod Sofar

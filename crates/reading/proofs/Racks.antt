@@ -76,12 +76,12 @@ module _ (old : List Node) (mark : ℕ) where
         record {
           next = omega arith;
           put = λ i b r. ⊎-elim
-            (λ before. let other : mark + i ≢ n = omega arith in getD-set-other rack n (mark + i) node blank other ∙ h .put i before (omega arith) ∙ sym (getD-append-left out (node ∷ []) blank i before))
-            (λ after.
-            let here : mark + i ≡ n = omega arith in
-            let last : length out ≡ i = omega arith in
-            ap (λ j. getD (set rack n node) j blank) here ∙ getD-set-same rack n node blank (omega arith) ∙ sym (getD-push out node blank i last))
-            (cases-lt i (length out));
+              (λ before. let other : mark + i ≢ n = omega arith in getD-set-other rack n (mark + i) node blank other ∙ h .put i before (omega arith) ∙ sym (getD-append-left out (node ∷ []) blank i before))
+              (λ after.
+              let here : mark + i ≡ n = omega arith in
+              let last : length out ≡ i = omega arith in
+              ap (λ j. getD (set rack n node) j blank) here ∙ getD-set-same rack n node blank (omega arith) ∙ sym (getD-push out node blank i last))
+              (cases-lt i (length out));
           outside = same-outside mark n old rack (set rack n node) (omega arith) (h .outside) (set-outside rack n node lt);
         }
 

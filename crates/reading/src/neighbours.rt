@@ -14,7 +14,9 @@ pub fn left_limit(operator: Operator<'_>) -> u16
 {
     match operator.form {
         Form::Yf | Form::Yfx => operator.priority,
-        Form::Fx | Form::Fy | Form::Xf | Form::Xfx | Form::Xfy => operator.priority.saturating_sub(1),
+        Form::Fx | Form::Fy | Form::Xf | Form::Xfx | Form::Xfy => operator
+            .priority
+            .saturating_sub(1),
     }
 }
 
@@ -24,7 +26,9 @@ pub fn right_limit(operator: Operator<'_>) -> u16
 {
     match operator.form {
         Form::Fy | Form::Xfy => operator.priority,
-        Form::Fx | Form::Xf | Form::Yf | Form::Xfx | Form::Yfx => operator.priority.saturating_sub(1),
+        Form::Fx | Form::Xf | Form::Yf | Form::Xfx | Form::Yfx => operator
+            .priority
+            .saturating_sub(1),
     }
 }
 

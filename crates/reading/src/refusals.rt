@@ -12,7 +12,8 @@ fn is_unlisted_symbol<N: Notation>(notation: &N, token: Token<'_>) -> bool
     ensures { λ r. ⌜ r ≡ isUnlistedSymbol (N·Notation .table (now (notation .entry))) (placed (token .entry) .kind) (placed (token .entry) .bytes) ⌝ }
 {
     match token {
-        Token::Symbol { bytes, .. } => notation.before(bytes).is_none() && notation.after(bytes).is_none(),
+        Token::Symbol { bytes, .. } => notation.before(bytes).is_none()
+            && notation.after(bytes).is_none(),
         Token::Word { .. } | Token::Open { .. } | Token::Close { .. } => false,
     }
 }

@@ -32,7 +32,14 @@ fn waiting_operator<N: Notation>(notation: &N, function: u8) -> Operator<'_>
 impl Reader {
     // Those that wait and take the operand before `right` take it; the answer is the next free place, or none if
     // neither neighbour may take the operand between them.
-    pub(crate) fn settle<N: Notation>(&mut self, notation: &N, rack: &mut [Node], mark: usize, at: usize, right: Operator<'_>) -> Option<usize>
+    pub(crate) fn settle<N: Notation>(
+        &mut self,
+        notation: &N,
+        rack: &mut [Node],
+        mark: usize,
+        at: usize,
+        right: Operator<'_>,
+    ) -> Option<usize>
         requires { ⌜ at + length (waiting (now self)) < 2 ^ 32 ⌝ }
         ensures state { λ r. ⌜ sited r (waiting (now (self .exit))) (now (rack .exit)) ≡ settled mark (N·Notation .table (now (notation .entry))) (meant (right .entry)) (waiting (now (self .entry))) (now (rack .entry)) at ⌝ }
         ensures kept { λ _. ⌜ SameOutside at (now (rack .entry)) (now (rack .exit)) ⌝ }

@@ -44,7 +44,14 @@ fn put_name<N: Notation>(notation: &N, rack: &mut [Node], at: usize, word: &[u8]
 
 impl Reader {
     // A token where an operand is due: where reading goes on, or none if the token fails.
-    fn operand<N: Notation>(&mut self, notation: &N, rack: &mut [Node], mark: usize, at: usize, token: Token<'_>) -> Option<Next>
+    fn operand<N: Notation>(
+        &mut self,
+        notation: &N,
+        rack: &mut [Node],
+        mark: usize,
+        at: usize,
+        token: Token<'_>,
+    ) -> Option<Next>
         requires bound { ⌜ at < 2 ^ 32 ⌝ }
         requires room { ⌜ length (waiting (now self)) < 1024 ⌝ }
         ensures state { λ r. ⌜ told r (waiting (now (self .exit))) (now (rack .exit)) ≡ operandStep mark (N·Notation .table (now (notation .entry))) (placed (token .entry) .kind) (placed (token .entry) .bytes) (waiting (now (self .entry))) (now (rack .entry)) at ⌝ }
@@ -54,28 +61,47 @@ impl Reader {
             Token::Word { bytes, .. } => match notation.before(bytes) {
                 Some(function) => {
                     self.push(Pending::Operator { function, from: at });
-                    Some(Next { due: Due::Operand, at })
+                    Some(Next {
+                        due: Due::Operand,
+                        at,
+                    })
                 }
                 None => {
                     let at = put_name(notation, rack, at, bytes)?;
-                    Some(Next { due: Due::Operator, at })
+                    Some(Next {
+                        due: Due::Operator,
+                        at,
+                    })
                 }
             },
             Token::Symbol { bytes, .. } => {
                 let function = notation.before(bytes)?;
                 self.push(Pending::Operator { function, from: at });
-                Some(Next { due: Due::Operand, at })
+                Some(Next {
+                    due: Due::Operand,
+                    at,
+                })
             }
             Token::Open { .. } => {
                 self.push(Pending::Bracket { from: at });
-                Some(Next { due: Due::Operand, at })
+                Some(Next {
+                    due: Due::Operand,
+                    at,
+                })
             }
             Token::Close { .. } => None,
         }
     }
 
     // The function's operator after the current operand: where reading goes on, or none if the operator fails.
-    fn place<N: Notation>(&mut self, notation: &N, rack: &mut [Node], mark: usize, at: usize, function: u8) -> Option<Next>
+    fn place<N: Notation>(
+        &mut self,
+        notation: &N,
+        rack: &mut [Node],
+        mark: usize,
+        at: usize,
+        function: u8,
+    ) -> Option<Next>
         requires bound { ⌜ at + length (waiting (now self)) < 2 ^ 32 ⌝ }
         requires room { ⌜ length (waiting (now self)) < 1024 ⌝ }
         ensures state { λ r. ⌜ told r (waiting (now (self .exit))) (now (rack .exit)) ≡ standing mark (fixityIn (N·Notation .table (now (notation .entry))) function) function (settled mark (N·Notation .table (now (notation .entry))) (operatorIn (N·Notation .table (now (notation .entry))) function) (waiting (now (self .entry))) (now (rack .entry)) at) ⌝ }
@@ -87,11 +113,17 @@ impl Reader {
             Form::Fx | Form::Fy => None,
             Form::Xf | Form::Yf => {
                 let at = self.cover(rack, mark, at, function);
-                Some(Next { due: Due::Operator, at })
+                Some(Next {
+                    due: Due::Operator,
+                    at,
+                })
             }
             Form::Xfx | Form::Xfy | Form::Yfx => {
                 self.push(Pending::Operator { function, from: at });
-                Some(Next { due: Due::Operand, at })
+                Some(Next {
+                    due: Due::Operand,
+                    at,
+                })
             }
         }
     }
@@ -104,13 +136,23 @@ impl Reader {
     {
         let at = self.unwind(rack, mark, at);
         match self.pop() {
-            Some(Pending::Bracket { .. }) => Some(Next { due: Due::Operator, at }),
+            Some(Pending::Bracket { .. }) => Some(Next {
+                due: Due::Operator,
+                at,
+            }),
             Some(Pending::Operator { .. }) | None => None,
         }
     }
 
     // A token where an operator is due: where reading goes on, or none if the token fails.
-    fn operator<N: Notation>(&mut self, notation: &N, rack: &mut [Node], mark: usize, at: usize, token: Token<'_>) -> Option<Next>
+    fn operator<N: Notation>(
+        &mut self,
+        notation: &N,
+        rack: &mut [Node],
+        mark: usize,
+        at: usize,
+        token: Token<'_>,
+    ) -> Option<Next>
         requires bound { ⌜ at + length (waiting (now self)) < 2 ^ 32 ⌝ }
         requires room { ⌜ length (waiting (now self)) < 1024 ⌝ }
         ensures state { λ r. ⌜ told r (waiting (now (self .exit))) (now (rack .exit)) ≡ operatorStep mark (N·Notation .table (now (notation .entry))) (placed (token .entry) .kind) (placed (token .entry) .bytes) (waiting (now (self .entry))) (now (rack .entry)) at ⌝ }
@@ -127,7 +169,14 @@ impl Reader {
     }
 
     // A token where this is due: where reading goes on, or none if the token fails.
-    pub(crate) fn advance<N: Notation>(&mut self, notation: &N, rack: &mut [Node], mark: usize, next: Next, token: Token<'_>) -> Option<Next>
+    pub(crate) fn advance<N: Notation>(
+        &mut self,
+        notation: &N,
+        rack: &mut [Node],
+        mark: usize,
+        next: Next,
+        token: Token<'_>,
+    ) -> Option<Next>
         requires bound { ⌜ next .at + length (waiting (now self)) < 2 ^ 32 ⌝ }
         requires room { ⌜ length (waiting (now self)) < 1024 ⌝ }
         ensures state { λ r. ⌜ told r (waiting (now (self .exit))) (now (rack .exit)) ≡ step mark (N·Notation .table (now (notation .entry))) (stands (next .due) (site (waiting (now (self .entry))) (now (rack .entry)) (next .at))) (lexeme (placed (token .entry))) ⌝ }

@@ -42,7 +42,13 @@ impl Reader {
     }
 
     // The operator on top, which is the function's, takes the current operand; the answer is the next free place.
-    pub(crate) fn complete(&mut self, rack: &mut [Node], mark: usize, at: usize, function: u8) -> usize
+    pub(crate) fn complete(
+        &mut self,
+        rack: &mut [Node],
+        mark: usize,
+        at: usize,
+        function: u8,
+    ) -> usize
         requires { ⌜ at < 2 ^ 32 ⌝ }
         ensures answer { λ r. ⌜ r ≡ at + 1 ⌝ }
         ensures stack { λ _. ⌜ waiting (now (self .exit)) ≡ rest (waiting (now (self .entry))) ⌝ }

@@ -15,18 +15,19 @@ loop-function-again g c =
     let v = c .in-Left .ensures tt .answer ∙ ap (λ (u : Op). taker u (meant (c .args .right))) (c .waiting-operator .ensures) in
     let on = settled-left (c .args .mark) (g .N·Notation .table (c .args .notation .now)) (meant (c .args .right)) k (c .in-Some .function) (c .loop-function .rack) (c .loop-function .at) top v in
     let less = one-less k (c .in-Some .function) top in
-    let fewer = ap length (c .complete-at .ensures .stack) in
-    (cc (on, c .loop-function .inv .0, c .complete-at .ensures .answer, c .complete-at .ensures .stack, c .complete-at .ensures .nodes),
-    omega (arith, c .loop-function .inv .1, c .complete-at .ensures .answer),
-    omega (arith, c .loop-function .inv .2, c .complete-at .ensures .answer),
-    same-outside (c .args .at) (c .loop-function .at) (c .args .rack .now) (c .loop-function .rack) (c .complete-at .last .rack) (c .loop-function .inv .2) (c .loop-function .inv .3) (c .complete-at .ensures .kept))
+    let fewer = ap length (c .complete-at .ensures .stack) in (
+      cc (on, c .loop-function .inv .0, c .complete-at .ensures .answer, c .complete-at .ensures .stack, c .complete-at .ensures .nodes),
+      omega (arith, c .loop-function .inv .1, c .complete-at .ensures .answer),
+      omega (arith, c .loop-function .inv .2, c .complete-at .ensures .answer),
+      same-outside (c .args .at) (c .loop-function .at) (c .args .rack .now) (c .loop-function .rack) (c .complete-at .last .rack) (c .loop-function .inv .2) (c .loop-function .inv .3) (c .complete-at .ensures .kept),
+    )
 
 pub returns-in-Right : need.returns-in-Right
 returns-in-Right g c =
     let v = c .in-Right .ensures tt .answer ∙ ap (λ (u : Op). taker u (meant (c .args .right))) (c .waiting-operator .ensures) in
     record {
       state = sym (settled-right (c .args .mark) (g .N·Notation .table (c .args .notation .now)) (meant (c .args .right)) (waiting (c .loop-function .self)) (c .in-Some .function) (c .loop-function .rack) (c .loop-function .at) (sym (c .last-function .ensures) ∙ c .in-Some .is) v)
-      ∙ c .loop-function .inv .0;
+          ∙ c .loop-function .inv .0;
       kept = c .loop-function .inv .3;
     }
 
@@ -35,7 +36,7 @@ returns-in-Neither g c =
     let v = c .in-Neither .ensures tt .answer ∙ ap (λ (u : Op). taker u (meant (c .args .right))) (c .waiting-operator .ensures) in
     record {
       state = sym (settled-neither (c .args .mark) (g .N·Notation .table (c .args .notation .now)) (meant (c .args .right)) (waiting (c .loop-function .self)) (c .in-Some .function) (c .loop-function .rack) (c .loop-function .at) (sym (c .last-function .ensures) ∙ c .in-Some .is) v)
-      ∙ c .loop-function .inv .0;
+          ∙ c .loop-function .inv .0;
       kept = c .loop-function .inv .3;
     }
 
@@ -43,6 +44,6 @@ pub returns : need.returns
 returns g c =
     record {
       state = sym (settled-end (c .args .mark) (g .N·Notation .table (c .args .notation .now)) (meant (c .args .right)) (waiting (c .loop-function .self)) (c .loop-function .rack) (c .loop-function .at) (sym (c .last-function .ensures) ∙ c .in-rest .is))
-      ∙ c .loop-function .inv .0;
+          ∙ c .loop-function .inv .0;
       kept = c .loop-function .inv .3;
     }
