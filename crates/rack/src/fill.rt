@@ -6,6 +6,6 @@ pub const RACK_NODES: usize = 4096;
 
 // The number of nodes in use, counted from the start of the rack.
 pub struct Fill {
-    pub(crate) used: usize,
+    pub used: usize,
     ghost few: { used ≤ 4096 },
 }

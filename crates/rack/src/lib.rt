@@ -5,6 +5,7 @@ mod filling;
 mod function_bits;
 mod function_set;
 mod name;
+mod naming;
 mod node;
 mod reckoning;
 mod rules;

@@ -1,0 +1,10 @@
+pub mod Agreement
+pub mod Bounds
+pub mod Deciding
+pub mod Endings
+pub mod NameTests
+pub mod Racks
+pub mod Sofar
+pub mod Stacks
+pub mod Turns
+pub mod Views

@@ -1,0 +1,18 @@
+use mathlib.Core.Path.{_≡_}
+use Prim.Native.Nat.{_+_, _≤_}
+use lib.ListN.{length}
+use Rattle.reading.specs.Outside.{SameOutside}
+use Rattle.reading.specs.Waiting.{waiting}
+use Rattle.reading.specs.Yard.{unwound}
+use Rattle.reading.proofs.reader.Reader.unwind.Given as given
+
+-- what is left to unwind comes out as all of it does; nodes and what waits are as many as they were
+abbrev pub Inv-loop-function : given.InvT-loop-function
+Inv-loop-function l =
+    (unwound (l .mark) (waiting (l .self)) (l .rack) (l .at) ≡ unwound (l .mark) (waiting (l .entry .self)) (l .entry .rack) (l .entry .at))
+    × (l .at + length (waiting (l .self)) ≡ l .entry .at + length (waiting (l .entry .self)))
+    × (l .entry .at ≤ l .at)
+    × SameOutside (l .entry .at) (l .entry .rack) (l .rack)
+
+abbrev pub μ-loop-function : given.MeasureT-loop-function
+μ-loop-function l = length (waiting (l .self))

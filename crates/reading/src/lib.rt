@@ -1,0 +1,15 @@
+// The reader: an expression becomes a tree in the rack, or the one fault that the rules give it.
+mod loan;
+mod neighbours;
+mod reader;
+mod reading;
+mod refusals;
+mod settling;
+mod steps;
+mod storing;
+mod waiting;
+
+pub use neighbours::left_limit;
+pub use neighbours::right_limit;
+pub use neighbours::taker_between;
+pub use reader::Reader;
