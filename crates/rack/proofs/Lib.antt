@@ -4,6 +4,7 @@ pub mod Lying
 pub mod Members
 pub mod Postorder
 pub mod Readable
+pub mod Sizes
 pub mod Standing
 pub mod Valuing
 pub mod Words

@@ -27,5 +27,6 @@ pub use theorems::later_nodes_do_not_matter;
 pub use theorems::lies_consecutively;
 pub use theorems::lies_where_put;
 pub use theorems::names_are_words;
+pub use theorems::no_more_nodes_than_tokens;
 pub use theorems::one_tree_lies;
 pub use theorems::read_trees_are_proper;

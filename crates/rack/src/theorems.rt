@@ -1,6 +1,7 @@
 // The theorems, each asked for by the contract of a function that does nothing else.
 ghost use Rattle.rack.specs.Names.{WordsAreSpelt, NamesArePadded};
 ghost use Rattle.rack.specs.Racks.{OneTreeLies, LiesConsecutively, LiesWherePut, SoundWherePut, LaterNodesDoNotMatter, ReadTreesAreProper};
+ghost use Rattle.rack.specs.Sizes.{NoMoreNodesThanTokens};
 
 // A word is spelt by the name that it makes, and a proper name is made by the word that it spells.
 pub fn names_are_words() -> u8
@@ -42,6 +43,13 @@ pub fn later_nodes_do_not_matter() -> u8
 // What a text reads as, a rack can hold.
 pub fn read_trees_are_proper() -> u8
     ensures { λ _. ⌜ ReadTreesAreProper ⌝ }
+{
+    0
+}
+
+// A tree has no more nodes than its text has tokens: 1,024 free nodes are enough for any expression within the limits.
+pub fn no_more_nodes_than_tokens() -> u8
+    ensures { λ _. ⌜ NoMoreNodesThanTokens ⌝ }
 {
     0
 }
