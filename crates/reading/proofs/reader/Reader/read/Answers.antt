@@ -34,9 +34,9 @@ step-requires g c κs =
     let few = c .in-Continue-check-expression .ensures tt .within .tokens in
     record {
       bound = sofar-few (g .N·Notation .table (c .args .notation .now)) (c .args .text .now) (c .args .rack .now) (c .args .fill .now .used) (ahead (c .loop-token .token-iterator)) (c .loop-token .next .due)
-        (site (waiting (c .loop-token .self)) (c .loop-token .rack) (c .loop-token .next .at)) (c .loop-token .inv .2) (c .args .fill .now .few) few;
+          (site (waiting (c .loop-token .self)) (c .loop-token .rack) (c .loop-token .next .at)) (c .loop-token .inv .2) (c .args .fill .now .few) few;
       room = sofar-room (g .N·Notation .table (c .args .notation .now)) (c .args .text .now) (c .args .rack .now) (c .args .fill .now .used) (ahead (c .loop-token .token-iterator)) (c .loop-token .next .due)
-        (site (waiting (c .loop-token .self)) (c .loop-token .rack) (c .loop-token .next .at)) (c .loop-token .inv .2) (placed (c .in-Some .token)) (ahead (c .next .last .self)) (c .in-Some .ensures tt .steps) few;
+          (site (waiting (c .loop-token .self)) (c .loop-token .rack) (c .loop-token .next .at)) (c .loop-token .inv .2) (placed (c .in-Some .token)) (ahead (c .next .last .self)) (c .in-Some .ensures tt .steps) few;
     }
 
 pub returns-in-Break-next : need.returns-in-Break-next
@@ -52,8 +52,8 @@ loop-token-again g c = (
   tt,
   tt,
   sofar-more (g .N·Notation .table (c .args .notation .now)) (c .args .text .now) (c .args .rack .now) (c .args .fill .now .used) (ahead (c .loop-token .token-iterator)) (c .loop-token .next .due)
-    (site (waiting (c .loop-token .self)) (c .loop-token .rack) (c .loop-token .next .at)) (c .loop-token .inv .2) (placed (c .in-Some .token)) (ahead (c .next .last .self)) (c .in-Continue-next .next .due)
-    (site (waiting (c .step .last .self)) (c .step .last .rack) (c .in-Continue-next .next .at)) (c .in-Some .ensures tt .steps) (c .in-Continue-next .ensures tt .state),
+      (site (waiting (c .loop-token .self)) (c .loop-token .rack) (c .loop-token .next .at)) (c .loop-token .inv .2) (placed (c .in-Some .token)) (ahead (c .next .last .self)) (c .in-Continue-next .next .due)
+      (site (waiting (c .step .last .self)) (c .step .last .rack) (c .in-Continue-next .next .at)) (c .in-Some .ensures tt .steps) (c .in-Continue-next .ensures tt .state),
   refl,
   refl,
   refl,
