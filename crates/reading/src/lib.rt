@@ -9,7 +9,5 @@ mod steps;
 mod storing;
 mod waiting;
 
-pub use neighbours::left_limit;
-pub use neighbours::right_limit;
 pub use neighbours::taker_between;
 pub use reader::Reader;

@@ -9,7 +9,7 @@ use notation::Form;
 use notation::Operator;
 
 // The largest weight that the operator admits at its left.
-pub fn left_limit(operator: Operator<'_>) -> u16
+fn left_limit(operator: Operator<'_>) -> u16
     ensures { λ r. ⌜ r ≡ leftLimit (meant (operator .entry)) ⌝ }
 {
     match operator.form {
@@ -21,7 +21,7 @@ pub fn left_limit(operator: Operator<'_>) -> u16
 }
 
 // The largest weight that the operator admits at its right.
-pub fn right_limit(operator: Operator<'_>) -> u16
+fn right_limit(operator: Operator<'_>) -> u16
     ensures { λ r. ⌜ r ≡ rightLimit (meant (operator .entry)) ⌝ }
 {
     match operator.form {

@@ -12,7 +12,7 @@ use std::alloc::Global;
 use tokens::MAX_TOKENS;
 
 impl Reader {
-    // A reader with memory for every expression, or none if there is not so much memory.
+    // A reader with memory for every expression, or the error that there is not so much.
     pub fn new(heap: Global) -> Result<Reader, AllocError>
         ensures { λ r. ⌜ made r (λ reader. waiting reader ≡ []) ⌝ }
     {

@@ -20,7 +20,7 @@ pub returns-in-Break-check-expression : need.returns-in-Break-check-expression
 returns-in-Break-check-expression g c =
     let p = err-from-errBy (c .from-residual .result) (c .from-residual .ensures .1) in
     limit-passed (g .N·Notation .table (c .args .notation .now)) (g .N·Notation·met .lawful (c .args .notation .now)) (c .args .text .now) (c .args .rack .now) (c .args .fill .now .used)
-    _ (c .in-Break-check-expression .ensures tt .answer .is) _ _ (p .1 ∙ ap Err (p .2)) (search needs)
+    (c .in-Break-check-expression .field-0 .0) (c .in-Break-check-expression .ensures tt .answer .is) (c .from-residual .result) _ (p .1 ∙ ap Err (p .2)) (search needs)
 
 pub loop-token-holds : need.loop-token-holds
 loop-token-holds g c =
@@ -31,26 +31,29 @@ loop-token-holds g c =
 
 pub step-requires : need.step-requires
 step-requires g c κs =
-    let t = g .N·Notation .table (c .args .notation .now) in
-    let sofar = c .loop-token .inv .2 in
     let few = c .in-Continue-check-expression .ensures tt .within .tokens in
     record {
-      bound = sofar-few t (c .args .text .now) (c .args .rack .now) (c .args .fill .now .used) _ _ _ sofar (c .args .fill .now .few) few;
-      room = sofar-room t (c .args .text .now) (c .args .rack .now) (c .args .fill .now .used) _ _ _ sofar (placed (c .in-Some .token)) _ (c .in-Some .ensures tt .steps) few;
+      bound = sofar-few (g .N·Notation .table (c .args .notation .now)) (c .args .text .now) (c .args .rack .now) (c .args .fill .now .used) (ahead (c .loop-token .token-iterator)) (c .loop-token .next .due)
+          (site (waiting (c .loop-token .self)) (c .loop-token .rack) (c .loop-token .next .at)) (c .loop-token .inv .2) (c .args .fill .now .few) few;
+      room = sofar-room (g .N·Notation .table (c .args .notation .now)) (c .args .text .now) (c .args .rack .now) (c .args .fill .now .used) (ahead (c .loop-token .token-iterator)) (c .loop-token .next .due)
+          (site (waiting (c .loop-token .self)) (c .loop-token .rack) (c .loop-token .next .at)) (c .loop-token .inv .2) (placed (c .in-Some .token)) (ahead (c .next .last .self)) (c .in-Some .ensures tt .steps) few;
     }
 
 pub returns-in-Break-next : need.returns-in-Break-next
 returns-in-Break-next g c =
     let p = err-from-errBy (c .from-residual-in-Break-next .result) (c .from-residual-in-Break-next .ensures .1) in
-    let failed = c .in-Break-next .ensures tt in
     token-refused (g .N·Notation .table (c .args .notation .now)) (g .N·Notation·met .lawful (c .args .notation .now)) (c .args .text .now) (c .args .rack .now) (c .args .fill .now .used)
-    (c .in-Continue-check-expression .ensures tt .within) _ _ _ (c .loop-token .inv .2) (placed (c .in-Some .token)) _ (c .in-Some .ensures tt .steps) (failed .state) _ (failed .kept) _ _ (p .1 ∙ ap Err (p .2 ∙ failed .fault)) (search needs)
+    (c .in-Continue-check-expression .ensures tt .within) (ahead (c .loop-token .token-iterator)) (c .loop-token .next .due) (site (waiting (c .loop-token .self)) (c .loop-token .rack) (c .loop-token .next .at)) (c .loop-token .inv .2)
+    (placed (c .in-Some .token)) (ahead (c .next .last .self)) (c .in-Some .ensures tt .steps) (c .in-Break-next .ensures tt .state) (c .step .last .rack) (c .in-Break-next .ensures tt .kept)
+    (c .from-residual-in-Break-next .result) _ (p .1 ∙ ap Err (p .2 ∙ c .in-Break-next .ensures tt .fault)) (search needs)
 
 pub loop-token-again : need.loop-token-again
 loop-token-again g c = (
   tt,
   tt,
-  sofar-more (g .N·Notation .table (c .args .notation .now)) (c .args .text .now) (c .args .rack .now) (c .args .fill .now .used) _ _ _ (c .loop-token .inv .2) (placed (c .in-Some .token)) _ _ _ (c .in-Some .ensures tt .steps) (c .in-Continue-next .ensures tt .state),
+  sofar-more (g .N·Notation .table (c .args .notation .now)) (c .args .text .now) (c .args .rack .now) (c .args .fill .now .used) (ahead (c .loop-token .token-iterator)) (c .loop-token .next .due)
+      (site (waiting (c .loop-token .self)) (c .loop-token .rack) (c .loop-token .next .at)) (c .loop-token .inv .2) (placed (c .in-Some .token)) (ahead (c .next .last .self)) (c .in-Continue-next .next .due)
+      (site (waiting (c .step .last .self)) (c .step .last .rack) (c .in-Continue-next .next .at)) (c .in-Some .ensures tt .steps) (c .in-Continue-next .ensures tt .state),
   refl,
   refl,
   refl,
@@ -58,25 +61,30 @@ loop-token-again g c = (
 
 pub finish-requires : need.finish-requires
 finish-requires g c κs =
-    sofar-few (g .N·Notation .table (c .args .notation .now)) (c .args .text .now) (c .args .rack .now) (c .args .fill .now .used) _ _ _ (c .loop-token .inv .2) (c .args .fill .now .few) (c .in-Continue-check-expression .ensures tt .within .tokens)
+    sofar-few (g .N·Notation .table (c .args .notation .now)) (c .args .text .now) (c .args .rack .now) (c .args .fill .now .used) (ahead (c .loop-token .token-iterator)) (c .loop-token .next .due)
+    (site (waiting (c .loop-token .self)) (c .loop-token .rack) (c .loop-token .next .at)) (c .loop-token .inv .2) (c .args .fill .now .few) (c .in-Continue-check-expression .ensures tt .within .tokens)
 
 pub returns-in-rest : need.returns-in-rest
 returns-in-rest g c =
-    let ended = c .in-rest .ensures tt in
     end-refused (g .N·Notation .table (c .args .notation .now)) (g .N·Notation·met .lawful (c .args .notation .now)) (c .args .text .now) (c .args .rack .now) (c .args .fill .now .used)
-    (c .in-Continue-check-expression .ensures tt .within) _ _ _ (c .loop-token .inv .2) (c .in-None .ensures tt .steps) (ended .state) _ (ended .kept) _ _ (ap (λ (k : FaultKind). Err (fault k (length (c .args .text .now)))) (c .fault-at-end .ensures)) (search needs)
+    (c .in-Continue-check-expression .ensures tt .within) (ahead (c .loop-token .token-iterator)) (c .loop-token .next .due) (site (waiting (c .loop-token .self)) (c .loop-token .rack) (c .loop-token .next .at)) (c .loop-token .inv .2)
+    (c .in-None .ensures tt .steps) (c .in-rest .ensures tt .state) (c .finish .last .rack) (c .in-rest .ensures tt .kept) (Err (fault (c .fault-at-end .result) (length (c .args .text .now)))) _
+    (ap (λ (k : FaultKind). Err (fault k (length (c .args .text .now)))) (c .fault-at-end .ensures)) (search needs)
 
 pub returns-then-end-room : need.returns-then-end-room
 returns-then-end-room g c =
     no-room (g .N·Notation .table (c .args .notation .now)) (g .N·Notation·met .lawful (c .args .notation .now)) (c .args .text .now) (c .args .rack .now) (c .args .fill .now .used)
-    (c .in-Continue-check-expression .ensures tt .within) _ _ _ (c .loop-token .inv .2) (c .in-None .ensures tt .steps) _ _ _ (c .in-Some-finish .ensures tt .state) (omega (arith, c .if-end-room .taken, c .room .ensures)) _ (search needs)
+    (c .in-Continue-check-expression .ensures tt .within) (ahead (c .loop-token .token-iterator)) (c .loop-token .next .due) (site (waiting (c .loop-token .self)) (c .loop-token .rack) (c .loop-token .next .at)) (c .loop-token .inv .2)
+    (c .in-None .ensures tt .steps) (waiting (c .finish .last .self)) (c .finish .last .rack) (c .in-Some-finish .end) (c .in-Some-finish .ensures tt .state) (omega (arith, c .if-end-room .taken, c .room .ensures)) _ (search needs)
 
 pub sub-result : need.sub-result
 sub-result g c =
     some-put (g .N·Notation .table (c .args .notation .now)) (g .N·Notation·met .lawful (c .args .notation .now)) (c .args .text .now) (c .args .rack .now) (c .args .fill .now .used)
-    (c .in-Continue-check-expression .ensures tt .within) _ _ _ (c .loop-token .inv .2) (c .in-None .ensures tt .steps) _ _ _ (c .in-Some-finish .ensures tt .state)
+    (c .in-Continue-check-expression .ensures tt .within) (ahead (c .loop-token .token-iterator)) (c .loop-token .next .due) (site (waiting (c .loop-token .self)) (c .loop-token .rack) (c .loop-token .next .at)) (c .loop-token .inv .2)
+    (c .in-None .ensures tt .steps) (waiting (c .finish .last .self)) (c .finish .last .rack) (c .in-Some-finish .end) (c .in-Some-finish .ensures tt .state)
 
 pub returns : need.returns
 returns g c =
     tree-put (g .N·Notation .table (c .args .notation .now)) (g .N·Notation·met .lawful (c .args .notation .now)) (c .args .text .now) (c .args .rack .now) (c .args .fill .now .used)
-    (c .in-Continue-check-expression .ensures tt .within) _ _ _ (c .loop-token .inv .2) (c .in-None .ensures tt .steps) _ _ _ (c .in-Some-finish .ensures tt .state) (omega (arith, c .if-end-room .left, c .room .ensures)) _ (search needs)
+    (c .in-Continue-check-expression .ensures tt .within) (ahead (c .loop-token .token-iterator)) (c .loop-token .next .due) (site (waiting (c .loop-token .self)) (c .loop-token .rack) (c .loop-token .next .at)) (c .loop-token .inv .2)
+    (c .in-None .ensures tt .steps) (waiting (c .finish .last .self)) (c .finish .last .rack) (c .in-Some-finish .end) (c .in-Some-finish .ensures tt .state) (omega (arith, c .if-end-room .left, c .room .ensures)) _ (search needs)
