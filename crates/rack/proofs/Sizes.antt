@@ -23,4 +23,4 @@ within t (infixed f a b) = omega (arith, within t a, within t b, length-append (
 pub no-more-nodes-than-tokens : NoMoreNodesThanTokens
 no-more-nodes-than-tokens t text tree r =
     let b = r .reading .bracketed in
-    omega (arith, within t b, ap size (r .reading .erased), ap length (r .reading .tokens), length-map lexeme (tokensOf text))
+    omega (arith, within t b, ap size (r .reading .erased), ap length (r .reading .tokens), length-map (tokensOf text) lexeme)

@@ -23,36 +23,24 @@ fn push_function(out: &mut Vec<u8>, function: u8) -> Result<(), AllocError> {
     out.extend_from_slice(&[b'0' + function % 10])
 }
 
-// Appends the operands of the node at `root`: they lie before it, the last of them next to it.
-fn push_operands(
-    out: &mut Vec<u8>,
-    rack: &[Node],
-    root: usize,
-    function: u8,
-) -> Result<(), AllocError> {
-    if root == 0 {
-        return Ok(());
-    }
-    let last = root - 1;
-    if operands_of(function) == 2 && last < rack.len() && rack[last].size <= last {
-        push_tree(out, rack, last - rack[last].size)?;
-        out.extend_from_slice(b",")?;
-    }
-    push_tree(out, rack, last)
-}
-
-// Appends the tree whose root lies at this node of the rack.
+// Appends the tree whose root lies at this node of the rack. Its operands lie before it, the last of them next to it.
 pub fn push_tree(out: &mut Vec<u8>, rack: &[Node], root: usize) -> Result<(), AllocError> {
     let Some(node) = rack.get(root) else {
         return Ok(());
     };
-    match node.item {
-        Item::Name(name) => push_name(out, name),
-        Item::Function(function) => {
-            push_function(out, function)?;
-            out.extend_from_slice(b"(")?;
-            push_operands(out, rack, root, function)?;
-            out.extend_from_slice(b")")
+    let function = match node.item {
+        Item::Name(name) => return push_name(out, name),
+        Item::Function(function) => function,
+    };
+    push_function(out, function)?;
+    out.extend_from_slice(b"(")?;
+    if root > 0 {
+        let last = root - 1;
+        if operands_of(function) == 2 && rack[last].size <= last {
+            push_tree(out, rack, last - rack[last].size)?;
+            out.extend_from_slice(b",")?;
         }
+        push_tree(out, rack, last)?;
     }
+    out.extend_from_slice(b")")
 }

@@ -36,6 +36,6 @@ returns g c =
     let stored : Valued m rack root (c .args .values .now) (c .store-values .last .values) = λ tree l. c .store-values .ensures tree (proper-tree rack root tree l) (rooted-part rack used root n rooted tree l) in
     record {
       answer = rooted-only rack used root n rooted (ValueOf m (length (c .args .values .now))) (value-one m (length (c .args .values .now))) _ (λ tree l.
-          reckoned m tree (c .args .values .now) (c .store-values .last .values) n (c .index-values-size .result) (rooted-size rack used root n rooted tree l) (stored tree l) (c .index-values-size .is) (c .if-values-size .left));
+          reckoned m tree (c .args .values .now) (c .store-values .last .values) n (c .index-values-size .result) (rooted-size rack used root n rooted tree l) (stored tree l) (c .index-values-size .is) (omega arith));
       values = stored;
     }
