@@ -1,14 +1,14 @@
 -- The values that a loop over a tree's nodes stores are those of the trees that they head.
 use mathlib.Core.Path.{_≡_, refl, sym, ap, subst, _∙_}
-use mathlib.Core.Logic.{_⊎_, inl, inr, ⊎-elim}
+use mathlib.Core.Logic.{inr, ⊎-elim}
 use mathlib.Core.List.{List, [], _∷_, _++_}
 use Prim.Native.Nat.{ℕ, _+_, _-_, _<_, _≤_}
 use native.Mathlib.Omega.{arith}
 use lib.ListN.{length, getD, set, take, drop}
-use Rattle.std.proofs.shelf.Lists.{length-append, length-push, getD-append-left, getD-default, getD-take, take-append-drop, take-all, take-more, take-more-set, drop-drop, drop-set-lt}
-use Rattle.std.proofs.shelf.Tests.{cases-lt}
 use Rattle.std.specs.declared.result.Result.{Result}
 use Rattle.std.specs.declared.result.Result.the-variants.{Ok}
+use Rattle.std.proofs.shelf.Lists.{length-append, length-push, getD-append-left, getD-default, getD-take, take-append-drop, take-all, take-more, take-more-set, drop-drop, drop-set-lt}
+use Rattle.std.proofs.shelf.Tests.{cases-lt}
 use Rattle.tokens.specs.Faults.{fault}
 use Rattle.tokens.specs.InOrder.{Refused, Accepted}
 use Rattle.tokens.specs.declared.fault.Fault.{Fault}
@@ -60,20 +60,20 @@ module _ {V : Type 0} (m : Meaning V) where
 
   module _ (nodes : List Node) (values : List V) where
     -- the values of the tree's nodes stand in the list
-    abbrev StandsFrom : ℕ → Tree → Type 0
+    abbrev pub StandsFrom : ℕ → Tree → Type 0
     StandsFrom from t = (d : V) → Stand d values from (valuesOf m t)
 
     -- each comes by the rules from those before it
     abbrev Comes : ℕ → Type 0
     Comes i = (v : V) → v ≡ getD values i v → ComesFrom m nodes i (itemAt nodes i) values v
 
-    operand-left : (from f : ℕ) (t : Tree) → StandsFrom from (one f t) → StandsFrom from t
+    pub operand-left : (from f : ℕ) (t : Tree) → StandsFrom from (one f t) → StandsFrom from t
     operand-left from f t h d = stand-left d values from (valuesOf m t) (fold m (one f t) ∷ []) (h d)
 
-    first-left : (from f : ℕ) (s t : Tree) → StandsFrom from (two f s t) → StandsFrom from s
+    pub first-left : (from f : ℕ) (s t : Tree) → StandsFrom from (two f s t) → StandsFrom from s
     first-left from f s t h d = stand-left d values from (valuesOf m s) (valuesOf m t ++ (fold m (two f s t) ∷ [])) (h d)
 
-    second-right : (from later f : ℕ) (s t : Tree) → from + size s ≡ later → StandsFrom from (two f s t) → StandsFrom later t
+    pub second-right : (from later f : ℕ) (s t : Tree) → from + size s ≡ later → StandsFrom from (two f s t) → StandsFrom later t
     second-right from later f s t at h d =
         let n = values-long s in
         let place : from + length (valuesOf m s) ≡ later = omega arith in

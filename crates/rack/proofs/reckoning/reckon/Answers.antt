@@ -1,10 +1,7 @@
-use mathlib.Core.Path.{_≡_, sym, ap, subst, _∙_}
-use mathlib.Core.Logic.{inr}
+use mathlib.Core.Path.{sym, ap, subst}
 use mathlib.Core.List.{List}
-use Prim.Native.Nat.{_<_, _-_}
 use native.Mathlib.Omega.{arith}
-use lib.ListN.{length, getD, drop}
-use Rattle.std.specs.declared.result.Result.the-variants.{Ok}
+use lib.ListN.{length}
 use Rattle.rack.specs.declared.node.Node.{Node}
 use Rattle.rack.specs.Nodes.{size}
 use Rattle.rack.specs.Racks.{SoundBelow}
@@ -36,6 +33,6 @@ returns g c =
     let stored : Valued m rack root (c .args .values .now) (c .store-values .last .values) = λ tree l. c .store-values .ensures tree (proper-tree rack root tree l) (rooted-part rack used root n rooted tree l) in
     record {
       answer = rooted-only rack used root n rooted (ValueOf m (length (c .args .values .now))) (value-one m (length (c .args .values .now))) _ (λ tree l.
-          reckoned m tree (c .args .values .now) (c .store-values .last .values) n (c .index-values-size .result) (rooted-size rack used root n rooted tree l) (stored tree l) (c .index-values-size .is) (c .if-values-size .left));
+          reckoned m tree (c .args .values .now) (c .store-values .last .values) n (c .index-values-size .result) (rooted-size rack used root n rooted tree l) (stored tree l) (c .index-values-size .is) (omega arith));
       values = stored;
     }
