@@ -1,9 +1,10 @@
 -- A call on the tree at a root has one answer, and when it has which.
 use mathlib.Core.Path.{_≡_, refl, sym, ap, subst, _∙_}
-use mathlib.Core.Logic.{_⊎_, inl, inr, ⊎-elim}
+use mathlib.Core.Logic.{inl, inr, ⊎-elim}
 use mathlib.Core.List.{List}
-use Prim.Native.Nat.{ℕ, _+_, _-_, _<_, _≤_}
+use Prim.Native.Nat.{ℕ, _+_, _-_, _<_}
 use native.Mathlib.Omega.{arith}
+use lib.ListN.{take, drop}
 use Rattle.std.specs.declared.result.Result.{Result}
 use Rattle.std.specs.declared.result.Result.the-variants.{Ok, Err}
 use Rattle.std.proofs.shelf.Tests.{cases-order}
@@ -15,8 +16,8 @@ use Rattle.tokens.proofs.Firsts.{if-one, if-some-one}
 use Rattle.grammar.specs.Trees.{Tree}
 use Rattle.rack.specs.declared.node.Node.{Node}
 use Rattle.rack.specs.Nodes.{size, nodesOf, room}
-use Rattle.rack.specs.Racks.{sizeAt, SoundBelow, FirstUnsound, Lies, NoRoot, AtTree, Rooted}
-use lib.ListN.{take, drop}
+use Rattle.rack.specs.Racks.{sizeAt, SoundBelow, FirstUnsound, Lies}
+use Rattle.rack.specs.Roots.{NoRoot, AtTree, Rooted}
 use Rattle.rack.proofs.Postorder.{lies-part}
 use Rattle.rack.proofs.Lying.{size-some, root-size, begins, lies-one, one-tree-lies}
 

@@ -1,8 +1,8 @@
 -- Sound nodes stay sound: a tree's nodes are, and what comes later does not matter.
 use mathlib.Core.Path.{_≡_, refl, sym, ap, subst, _∙_}
-use mathlib.Core.Logic.{_⊎_, inl, inr, ⊎-elim}
+use mathlib.Core.Logic.{inl, inr, ⊎-elim}
 use mathlib.Core.List.{List}
-use Prim.Native.Nat.{ℕ, _+_, _-_, _<_, _≤_}
+use Prim.Native.Nat.{ℕ, _+_, _-_, _<_}
 use native.Mathlib.Omega.{arith}
 use lib.ListN.{getD}
 use Rattle.std.proofs.shelf.Tests.{cases-lt}
@@ -11,7 +11,7 @@ use Rattle.grammar.specs.Trees.Tree.{name, one, two}
 use Rattle.rack.specs.declared.node.Item.{Item}
 use Rattle.rack.specs.declared.node.Item.the-variants as I
 use Rattle.rack.specs.declared.node.Node.{Node}
-use Rattle.rack.specs.Nodes.{size, nameOf, blank, LiesFrom, SameBelow}
+use Rattle.rack.specs.Nodes.{size, blank, LiesFrom, SameBelow}
 use Rattle.rack.specs.Racks.{ProperTree, itemAt, sizeAt, HasOne, HasTwo, Heads, Sound, SoundBelow, Lies}
 use Rattle.rack.proofs.Lying.{size-some, root-size, name-item, one-item, two-item}
 use Rattle.rack.proofs.Postorder.{lies-where-put}

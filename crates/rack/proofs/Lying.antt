@@ -1,27 +1,22 @@
 -- Where the nodes up to a root are sound, one tree lies there and no other.
 use mathlib.Core.Path.{_≡_, refl, sym, ap, subst, _∙_}
-use mathlib.Core.Logic.{_⊎_, inl, inr, ⊎-elim}
+use mathlib.Core.Logic.{⊎-elim}
 use mathlib.Core.List.{List}
 use Prim.Native.Nat.{ℕ, zero, suc, _+_, _-_, _<_, _≤_}
 use native.Mathlib.Omega.{arith}
 use lib.ListN.{length, getD}
-use Rattle.std.specs.declared.result.Result.{Result}
 use Rattle.std.proofs.shelf.Lists.{getD-past}
 use Rattle.std.proofs.shelf.Tests.{cases-lt}
-use Rattle.tokens.specs.InOrder.{If, IfSome, Only, Refused}
-use Rattle.tokens.specs.Faults.{fault}
-use Rattle.tokens.specs.declared.fault.Fault.{Fault}
-use Rattle.tokens.specs.declared.fault.FaultKind.the-variants.{NoSuchRoot, MalformedRack}
-use Rattle.tokens.proofs.Firsts.{if-one, if-some-one}
+use Rattle.tokens.specs.InOrder.{Only}
 use Rattle.grammar.specs.Trees.{Tree}
 use Rattle.grammar.specs.Trees.Tree.{name, one, two}
 use Rattle.rack.specs.declared.name.Name.{Name}
 use Rattle.rack.specs.declared.node.Item.{Item}
 use Rattle.rack.specs.declared.node.Item.the-variants as I
 use Rattle.rack.specs.declared.node.Node.{Node}
-use Rattle.rack.specs.Nodes.{padded, nameOf, size, nameNode, functionNode, blank}
+use Rattle.rack.specs.Nodes.{nameOf, size, nameNode, functionNode, blank}
 use Rattle.rack.specs.Names.{ShortWord, ProperName, spelt}
-use Rattle.rack.specs.Racks.{itemAt, sizeAt, HasOne, HasTwo, Heads, Sound, SoundBelow, FirstUnsound, Lies, NoRoot, AtTree}
+use Rattle.rack.specs.Racks.{itemAt, sizeAt, HasOne, HasTwo, Heads, SoundBelow, Lies}
 use Rattle.rack.proofs.Words.{spelt-padded}
 
 -- a tree has at least one node

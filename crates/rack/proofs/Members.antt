@@ -1,18 +1,18 @@
 -- Bits of a number, and the set of a tree's functions that they make.
-use mathlib.Core.Path.{_≡_, refl, sym, ap, subst, _∙_}
-use mathlib.Core.Logic.{_⊎_, inl, inr, ⊎-elim}
-use mathlib.Core.List.{List}
+use mathlib.Core.Path.{_≡_, refl, sym, ap, _∙_}
+use mathlib.Core.Logic.{inl, inr, ⊎-elim}
 use mathlib.Core.Bool.{Bool, true, false, cond, _||_}
-use Prim.Native.Nat.{ℕ, zero, suc, _+_, _-_, _*_, _/_, _%_, _^_, _<_, _≤_}
+use mathlib.Core.List.{List}
+use Prim.Native.Nat.{ℕ, zero, suc, _+_, _-_, _*_, _/_, _%_, _^_, _<_}
 use native.Mathlib.Nat.{add-comm, pow-suc, mul-mod-left, div-eq-of-lt, mod-eq-of-lt}
 use native.Mathlib.Omega.{arith}
 use lib.Bits.{bitOr}
 use lib.Count.{ones, ones-cat}
 use lib.Dec.{eqb, ltb}
-use Rattle.std.proofs.shelf.Bits.{pow-pos, pow-add, pow-below, shl-shr, mod-pow-add, mod-below, or-shr, or-mod}
-use Rattle.std.proofs.shelf.Tests.{eqb-true, eqb-false, eq-eqb, ne-eqb, lt-ltb, cond-true, cases-order, cases-bool}
 use Rattle.std.specs.declared.result.Result.{Result}
 use Rattle.std.specs.declared.result.Result.the-variants.{Ok, Err}
+use Rattle.std.proofs.shelf.Bits.{pow-pos, pow-add, pow-below, shl-shr, mod-pow-add, mod-below, or-shr, or-mod}
+use Rattle.std.proofs.shelf.Tests.{eq-eqb, ne-eqb, lt-ltb, cond-true, cases-order}
 use Rattle.tokens.specs.Faults.{fault}
 use Rattle.tokens.specs.InOrder.{Only, Refused}
 use Rattle.tokens.specs.declared.fault.Fault.{Fault}
@@ -21,10 +21,11 @@ use Rattle.tokens.proofs.Firsts.{if-one}
 use Rattle.grammar.specs.Trees.{Tree}
 use Rattle.grammar.specs.Trees.Tree.{name, one, two}
 use Rattle.rack.specs.declared.function_set.FunctionSet.{FunctionSet}
+use Rattle.rack.specs.declared.node.Node.{Node}
 use Rattle.rack.specs.FunctionSets.{occurs, hasBit, countBelow, SetOf, SetAnswered, bitOf, bitsMeaning}
 use Rattle.rack.specs.Nodes.{size}
-use Rattle.rack.specs.declared.node.Node.{Node}
-use Rattle.rack.specs.Racks.{ProperTree, Lies, AtTree}
+use Rattle.rack.specs.Racks.{ProperTree}
+use Rattle.rack.specs.Roots.{AtTree}
 use Rattle.rack.specs.Reckoning.{fold, ValueOf}
 use Rattle.rack.proofs.Answering.{at-tree-only, at-changed}
 use Rattle.rack.proofs.Postorder.{proper-tree}

@@ -1,15 +1,15 @@
 -- The nodes of a tree that lies in a rack are consecutive.
-use mathlib.Core.Path.{_≡_, refl, sym, ap, subst, _∙_}
+use mathlib.Core.Path.{_≡_, refl, ap, _∙_}
 use mathlib.Core.List.{List, [], _∷_, _++_}
-use Prim.Native.Nat.{ℕ, _+_, _-_, _<_, _≤_}
+use Prim.Native.Nat.{ℕ, _+_, _-_}
 use native.Mathlib.Omega.{arith}
-use lib.ListN.{length, getD, take, drop}
+use lib.ListN.{length, take, drop}
 use Rattle.std.proofs.shelf.Lists.{length-append, length-push, take-at}
 use Rattle.std.proofs.shelf.Fronts.{at-from-reads}
 use Rattle.grammar.specs.Trees.{Tree}
 use Rattle.grammar.specs.Trees.Tree.{name, one, two}
 use Rattle.rack.specs.declared.node.Node.{Node}
-use Rattle.rack.specs.Nodes.{size, nameNode, functionNode, nodesOf, blank, room, LiesFrom}
+use Rattle.rack.specs.Nodes.{size, nameNode, functionNode, nodesOf, blank, LiesFrom}
 use Rattle.rack.specs.Racks.{ProperTree, Lies, EndsAt}
 use Rattle.rack.proofs.Lying.{size-some, begins, inside}
 use Rattle.rack.proofs.Standing.{Stand, stand-join, stand-left, stand-right, stand-one, one-stands}

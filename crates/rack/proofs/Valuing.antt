@@ -1,14 +1,14 @@
 -- The values that a loop over a tree's nodes stores are those of the trees that they head.
 use mathlib.Core.Path.{_≡_, refl, sym, ap, subst, _∙_}
-use mathlib.Core.Logic.{_⊎_, inl, inr, ⊎-elim}
+use mathlib.Core.Logic.{inr, ⊎-elim}
 use mathlib.Core.List.{List, [], _∷_, _++_}
 use Prim.Native.Nat.{ℕ, _+_, _-_, _<_, _≤_}
 use native.Mathlib.Omega.{arith}
 use lib.ListN.{length, getD, set, take, drop}
-use Rattle.std.proofs.shelf.Lists.{length-append, length-push, getD-append-left, getD-default, getD-take, take-append-drop, take-all, take-more, take-more-set, drop-drop, drop-set-lt}
-use Rattle.std.proofs.shelf.Tests.{cases-lt}
 use Rattle.std.specs.declared.result.Result.{Result}
 use Rattle.std.specs.declared.result.Result.the-variants.{Ok}
+use Rattle.std.proofs.shelf.Lists.{length-append, length-push, getD-append-left, getD-default, getD-take, take-append-drop, take-all, take-more, take-more-set, drop-drop, drop-set-lt}
+use Rattle.std.proofs.shelf.Tests.{cases-lt}
 use Rattle.tokens.specs.Faults.{fault}
 use Rattle.tokens.specs.InOrder.{Refused, Accepted}
 use Rattle.tokens.specs.declared.fault.Fault.{Fault}

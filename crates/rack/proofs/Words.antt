@@ -8,9 +8,9 @@ use lib.Dec.{eqb}
 use lib.ListN.{length, getD, take, drop, replicate}
 use Rattle.std.specs.shelf.Lists.{All}
 use Rattle.std.specs.declared.option.Option.the-variants.{Some}
-use Rattle.std.proofs.shelf.Elements.{all-getD}
-use Rattle.std.proofs.shelf.Lists.{length-drop, length-take-le, take-append-drop, take-all, take-more, drop-all, drop-more, drop-at}
 use Rattle.std.specs.Orderings.{When, Decides}
+use Rattle.std.proofs.shelf.Elements.{all-getD}
+use Rattle.std.proofs.shelf.Lists.{length-drop, length-take-le, take-append-drop, take-more, drop-all, drop-more, drop-at}
 use Rattle.std.proofs.shelf.Tests.{both-ways, eq-eqb, ne-eqb, cond-true, cond-false}
 use Rattle.tokens.specs.Bytes.{classOf}
 use Rattle.tokens.specs.Tokens.{kindIn, kindOf, WellFormed}

@@ -4,11 +4,7 @@ use mathlib.Core.Logic.{_⊎_}
 use mathlib.Core.List.{List}
 use Prim.Native.Nat.{ℕ, _+_, _-_, _<_, _≤_}
 use lib.ListN.{getD}
-use Rattle.std.specs.declared.result.Result.{Result}
-use Rattle.tokens.specs.declared.fault.Fault.{Fault}
-use Rattle.tokens.specs.declared.fault.FaultKind.the-variants.{NoSuchRoot, MalformedRack}
-use Rattle.tokens.specs.Faults.{fault}
-use Rattle.tokens.specs.InOrder.{If, IfSome, Only, Refused}
+use Rattle.tokens.specs.InOrder.{Only}
 use Rattle.notation.specs.Tables.{Table, LawfulTable}
 use Rattle.grammar.specs.Trees.{Tree}
 use Rattle.grammar.specs.Trees.Tree.{name, one, two}
@@ -70,28 +66,6 @@ module _ (rack : List Node) where
   Lies i (two f s t) =
       (32 ≤ f) × (f < 64) × (size s + size t ≤ i) × (getD rack i blank ≡ functionNode f (size s + size t + 1))
       × Lies (i - 1 - size t) s × Lies (i - 1) t
-
-  -- the root is not among the nodes in use, or past the rack's room
-  abbrev pub NoRoot : ℕ → ℕ → Type 0
-  NoRoot used root = (used ≤ root) ⊎ (room rack ≤ root)
-
-  -- What a call on the tree at a root answers: first that there is no such root, then the first node up to the root
-  -- that breaks the rules, and else what `rule` says of the tree that lies there.
-  abbrev pub AtTree : {T : Type 0} → ℕ → ℕ → (Tree → Result T Fault → Type 0) → Result T Fault → Type 0
-  AtTree used root rule =
-      If (NoRoot used root) (Refused (fault NoSuchRoot 0))
-      (IfSome (FirstUnsound root) (λ i. Refused (fault MalformedRack i)) (λ r. (tree : Tree) × Lies root tree × rule tree r))
-
--- what holds where such a call refuses neither: one tree lies at the root, and has n nodes
-pub record Rooted (rack : List Node) (used root n : ℕ) : Type 0 where
-  pub inUse : root < used
-  pub within : root < room rack
-  pub sound : SoundBelow rack (root + 1)
-  pub tree : Tree
-  pub lies : Only (Lies rack root) tree
-  pub nodes : n ≡ size tree
-  pub some : 0 < n
-  pub begins : n ≤ root + 1
 
 -- The laws. Where all nodes up to a root are sound, exactly one tree lies there.
 abbrev pub OneTreeLies : Type 0

@@ -15,7 +15,7 @@ use Rattle.rack.specs.declared.node.Item.the-variants as I
 use Rattle.rack.specs.declared.node.Node.{Node}
 use Rattle.rack.specs.Names.{spelt}
 use Rattle.rack.specs.Nodes.{size}
-use Rattle.rack.specs.Racks.{itemAt, sizeAt, Lies}
+use Rattle.rack.specs.Racks.{sizeAt, Lies}
 
 -- the rules: the value of a name, and of a function with the value of its one operand or those of its two
 pub record Meaning (V : Type 0) : Type 0 where

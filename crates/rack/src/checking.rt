@@ -5,11 +5,12 @@ ghost use lib.ListN.{length};
 ghost use Rattle.std.specs.Options.{Cases as BySome};
 ghost use Rattle.std.specs.Orderings.{When};
 ghost use Rattle.std.specs.Results.{Cases};
-ghost use Rattle.tokens.specs.Faults.{fault};
 ghost use Rattle.std.specs.Vec.{made};
+ghost use Rattle.tokens.specs.Faults.{fault};
 ghost use Rattle.tokens.specs.InOrder.{Only, Accepted};
-ghost use Rattle.rack.specs.Nodes.{size};
-ghost use Rattle.rack.specs.Racks.{itemAt, Heads, Sound, SoundBelow, FirstUnsound, AtTree, Rooted};
+ghost use Rattle.rack.specs.Nodes.{size, room};
+ghost use Rattle.rack.specs.Racks.{itemAt, Heads, Sound, SoundBelow, FirstUnsound};
+ghost use Rattle.rack.specs.Roots.{NoRoot, AtTree, Rooted};
 use crate::fill::Fill;
 use crate::node::Item;
 use crate::node::Node;
@@ -29,7 +30,7 @@ fn headed_size(rack: &[Node], at: usize) -> Option<usize>
     ensures { λ r. ⌜ BySome r ((n : ℕ) → Heads (now (rack .entry)) at (itemAt (now (rack .entry)) at) n → ⊥) (λ n. Heads (now (rack .entry)) at (itemAt (now (rack .entry)) at) n) ⌝ }
 {
     match rack[at].item {
-        Item::Name(name) => { if name.is_proper() { Some(1) } else { None } }
+        Item::Name(name) => name.is_proper().then_some(1),
         Item::Function(function) => {
             if at == 0 || function >= FUNCTIONS {
                 return None;
@@ -74,13 +75,20 @@ fn check_nodes(rack: &[Node], root: usize) -> Result<(), Fault>
     Ok(())
 }
 
+// Whether the root is among the nodes in use and before the rack's end.
+fn has_root(rack: &[Node], fill: &Fill, root: usize) -> bool
+    ensures { λ r. ⌜ When r ((root < now (fill .entry) .used) × (root < room (now (rack .entry)))) (NoRoot (now (rack .entry)) (now (fill .entry) .used) root) ⌝ }
+{
+    root < fill.used && root < rack.len()
+}
+
 // The size of the tree at the root. Refuses a root that is not among the nodes in use or past the
 // rack's end, then the first node up to it that breaks the rules.
 pub fn check_tree(rack: &[Node], fill: &Fill, root: usize) -> Result<usize, Fault>
     ensures answer { λ r. ⌜ Only (AtTree (now (rack .entry)) (now (fill .entry) .used) root (λ tree. Accepted (size tree))) r ⌝ }
     ensures tree { λ r. ⌜ made r (Rooted (now (rack .entry)) (now (fill .entry) .used) root) ⌝ }
 {
-    if root >= fill.used || root >= rack.len() {
+    if !has_root(rack, fill, root) {
         return Err(Fault {
             kind: FaultKind::NoSuchRoot,
             place: 0,

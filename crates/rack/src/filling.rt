@@ -11,20 +11,6 @@ use tokens::Fault;
 use tokens::FaultKind;
 
 impl Fill {
-    // A fill of no nodes.
-    pub fn new() -> Fill
-        ensures { λ r. ⌜ r .used ≡ 0 ⌝ }
-    {
-        Fill { used: 0 }
-    }
-
-    // How many nodes are in use.
-    pub fn used(&self) -> usize
-        ensures { λ r. ⌜ r ≡ now (self .entry) .used ⌝ }
-    {
-        self.used
-    }
-
     // Lowers the fill to the mark. Refuses a mark above it, and is then as it was.
     pub fn take_back(&mut self, mark: usize) -> Result<(), Fault>
         ensures answer { λ r. ⌜ Only (TakesBack (now (self .entry) .used) mark) r ⌝ }

@@ -4,7 +4,7 @@ ghost use lib.ListN.{length};
 ghost use Rattle.std.specs.Results.{Cases};
 ghost use Rattle.tokens.specs.InOrder.{Only};
 ghost use Rattle.rack.specs.FunctionSets.{SetAnswered, bitOf, bitsMeaning};
-ghost use Rattle.rack.specs.Racks.{AtTree};
+ghost use Rattle.rack.specs.Roots.{AtTree};
 ghost use Rattle.rack.specs.Reckoning.{Valued};
 use crate::checking::FUNCTIONS;
 use crate::fill::Fill;

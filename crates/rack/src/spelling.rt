@@ -1,7 +1,7 @@
 // What a name's sixteen bytes say: its word, whether it is proper, and whether two are the same.
 ghost use mathlib.Core.Path.{_≡_};
 ghost use Prim.Native.Nat.{_≤_};
-ghost use lib.ListN.{length, take};
+ghost use lib.ListN.{take};
 ghost use Rattle.std.specs.declared.option.Option.the-variants.{Some};
 ghost use Rattle.std.specs.Orderings.{When};
 ghost use Rattle.std.specs.shelf.Lists.{All};

@@ -1,4 +1,4 @@
-use Prim.Native.Nat.{_-_, _+_, _≤_, _<_}
+use Prim.Native.Nat.{_-_, _<_}
 use native.Mathlib.Omega.{arith}
 use Rattle.rack.specs.Racks.{sizeAt}
 use Rattle.rack.proofs.Lying.{size-within}

@@ -1,10 +1,7 @@
-use mathlib.Core.Path.{_≡_, sym, ap, subst, _∙_}
-use mathlib.Core.Logic.{inr}
+use mathlib.Core.Path.{sym, ap, subst}
 use mathlib.Core.List.{List}
-use Prim.Native.Nat.{_<_, _-_}
 use native.Mathlib.Omega.{arith}
-use lib.ListN.{length, getD, drop}
-use Rattle.std.specs.declared.result.Result.the-variants.{Ok}
+use lib.ListN.{length}
 use Rattle.rack.specs.declared.node.Node.{Node}
 use Rattle.rack.specs.Nodes.{size}
 use Rattle.rack.specs.Racks.{SoundBelow}

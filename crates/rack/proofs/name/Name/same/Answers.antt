@@ -1,4 +1,3 @@
-use borrow.Author.Needs.{needs}
 use Rattle.std.proofs.shelf.Equals.{matches-decides}
 use Rattle.rack.proofs.Words.{same-names}
 use Rattle.rack.proofs.name.Name.same.Needs as need

@@ -1,5 +1,5 @@
-use Prim.Native.Nat.{_<_}
 use mathlib.Core.Path.{_≡_}
+use Prim.Native.Nat.{_<_}
 use native.Mathlib.Omega.{arith}
 use lib.ListN.{length}
 use Rattle.rack.proofs.Words.{begins-none, begins-more, begins-zero, begins-all}
