@@ -24,7 +24,7 @@ fn push_function(out: &mut Vec<u8>, function: u8) -> Result<(), AllocError> {
 }
 
 // Appends the tree whose root lies at this node of the rack. Its operands lie before it, the last of them next to it.
-pub fn push_tree(out: &mut Vec<u8>, rack: &[Node], root: usize) -> Result<(), AllocError> {
+pub(crate) fn push_tree(out: &mut Vec<u8>, rack: &[Node], root: usize) -> Result<(), AllocError> {
     let Some(node) = rack.get(root) else {
         return Ok(());
     };
