@@ -1,4 +1,6 @@
 // What reads as what: trees, lawful bracketed trees, reading, verdicts and the writing rule, with their theorems.
+#![tactic(auto)]
+
 mod due;
 mod taker;
 mod theorems;

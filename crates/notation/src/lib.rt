@@ -1,4 +1,6 @@
 // Functions, operators and notations: the fixed ladder and declared lists.
+#![tactic(auto)]
+
 mod checking;
 mod declaration;
 mod declaring;

@@ -1,4 +1,6 @@
 // Plan lines and fault lines, and the command from its whole input to its whole output.
+#![tactic(auto)]
+
 mod any_notation;
 mod command;
 mod input_fault;

@@ -1,4 +1,5 @@
 // Examples for the crates `tokens` and `plan`, run by the gate. The crate has no code of its own.
+#![tactic(auto)]
 
 #[cfg(test)]
 mod tests {

@@ -1,4 +1,6 @@
 // The rack: nodes that hold trees in postorder, and what is worked out over them.
+#![tactic(auto)]
+
 mod checking;
 mod fill;
 mod filling;

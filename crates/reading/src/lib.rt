@@ -1,4 +1,6 @@
 // The reader: an expression becomes a tree in the rack, or the one fault that the rules give it.
+#![tactic(auto)]
+
 mod loan;
 mod neighbours;
 mod reader;

@@ -1,4 +1,6 @@
 // Examples of reading, which are proved and run. The crate has no code but a notation to read them under.
+#![tactic(auto)]
+
 mod example_list;
 
 pub use example_list::ExampleList;

@@ -1,4 +1,6 @@
 // Bytes and tokens of an expression: classes, cutting, limits, spacing, and the product's one fault type.
+#![tactic(auto)]
+
 mod byte;
 mod cutter;
 mod cutting;

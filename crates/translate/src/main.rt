@@ -1,4 +1,6 @@
 // translate: reads a plan from standard input and writes it in canonical spacing to standard output.
+#![tactic(auto)]
+
 use plan::translate;
 use std::io;
 use std::io::{Read, Write};

@@ -1,5 +1,7 @@
 // trees: reads a notation and then expressions, one to a line, from standard input, and writes the tree of each, or the
 // fault line of one that does not read.
+#![tactic(auto)]
+
 mod printing;
 
 use crate::printing::push_tree;
