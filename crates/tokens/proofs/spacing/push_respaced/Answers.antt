@@ -8,10 +8,10 @@ use Rattle.tokens.specs.Tokens.{Placed, placed, lexeme}
 use Rattle.tokens.proofs.Spaces.{spacing_keeps_tokens, respaced_tokens, respaced_fits, pairs_fit, turn_bytes, turn_room, turn_pairs}
 use Rattle.tokens.proofs.spacing.push_respaced.Goals as goal
 
-pub returns-in-err-reserve : goal.returns-in-err-reserve
-returns-in-err-reserve c =
-    let p = err_from_is_err_and c.from-residual.result c.from-residual.ensures.1 in
-    let full = c.in-err-reserve.ensures.full in
+pub returns-in_err-reserve : goal.returns-in_err-reserve
+returns-in_err-reserve c =
+    let p = err_from_is_err_and c.from_residual.result c.from_residual.ensures.1 in
+    let full = c.in_err-reserve.ensures.full in
     rw p.1 (record {
       bytes = c.reserve.ensures.items;
       law = spacing_keeps_tokens;
@@ -21,14 +21,14 @@ returns-in-err-reserve c =
       succeeds = λ room. absurd (omega arith);
     })
 
-pub push-token-requires : goal.push-token-requires
-push-token-requires c =
+pub push_token-requires : goal.push_token-requires
+push_token-requires c =
     let inv = c.loop-token.invariant in
     let start = c.reserve.new.self in
     omega (
       arith,
       inv.4,
-      c.in-ok-reserve.ensures.ok,
+      c.in_ok-reserve.ensures.ok,
       c.loop-token.out.ok.0,
       start.ok.0,
       respaced_fits c.args.text.now,
@@ -36,11 +36,11 @@ push-token-requires c =
       turn_room (vec_items c.loop-token.out) c.loop-token.last (ahead c.loop-token.token-iterator) (ahead c.next.new.self) (placed c.in-Some.token) c.in-Some.ensures.steps (vec_items start ++ respaced c.args.text.now) inv.2,
     )
 
-pub overflow-add-pairs : goal.overflow-add-pairs
-overflow-add-pairs c =
+pub overflow_add-pairs : goal.overflow_add-pairs
+overflow_add-pairs c =
     let inv = c.loop-token.invariant in
     let all = turn_pairs (vec_items c.loop-token.out) c.loop-token.last (ahead c.loop-token.token-iterator) (ahead c.next.new.self) (placed c.in-Some.token) c.in-Some.ensures.steps c.loop-token.pairs (pairs_of c.args.text.now) inv.3 in
-    omega (arith, all, c.pairs-closed-pairs.ensures, ap closes c.kind-kind.ensures, pairs_fit c.args.text.now, c.well-formed)
+    omega (arith, all, c.pairs_closed-pairs.ensures, ap closes c.kind-kind.ensures, pairs_fit c.args.text.now, c.well_formed)
 
 pub loop-token-preserved : goal.loop-token-preserved
 loop-token-preserved c =
@@ -52,9 +52,9 @@ loop-token-preserved c =
     let all = turn_pairs (vec_items c.loop-token.out) c.loop-token.last (ahead c.loop-token.token-iterator) rest t next c.loop-token.pairs (pairs_of c.args.text.now) inv.3 in (
       tt,
       tt,
-      (λ i. c.push-token.ensures.bytes i ++ spaced_after (Some (c.kind-kind.ensures i)) (map lexeme rest)) ∙ bytes,
-      omega (arith, all, c.pairs-closed-pairs.ensures, ap closes c.kind-kind.ensures),
-      omega (arith, inv.4, c.push-token.ensures.capacity),
+      (λ i. c.push_token.ensures.bytes i ++ spaced_after (Some (c.kind-kind.ensures i)) (map lexeme rest)) ∙ bytes,
+      omega (arith, all, c.pairs_closed-pairs.ensures, ap closes c.kind-kind.ensures),
+      omega (arith, inv.4, c.push_token.ensures.capacity),
     )
 
 pub returns : goal.returns

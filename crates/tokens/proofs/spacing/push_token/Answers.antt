@@ -5,8 +5,8 @@ use Rattle.tokens.specs.Spacing.{between}
 use Rattle.tokens.specs.Tokens.{placed}
 use Rattle.tokens.proofs.spacing.push_token.Goals as goal
 
-pub push-between-requires : goal.push-between-requires
-push-between-requires c =
+pub push_between-requires : goal.push_between-requires
+push_between-requires c =
     rw c.kind.ensures (omega (arith, c.requires, length-append (between c.args.last (placed c.args.token).kind) (placed c.args.token).bytes))
 
 pub returns : goal.returns
@@ -14,11 +14,11 @@ returns c =
     let kind = c.kind.ensures in
     let bytes = c.bytes.ensures in
     let gap = between c.args.last (placed c.args.token).kind in
-    let spaced : vec_items c.push-between.new.out ≡ vec_items c.args.out.now ++ gap = c.push-between.ensures.bytes ∙ ap (λ k. vec_items c.args.out.now ++ between c.args.last k) kind in
-    let room : vec_len c.push-between.new.out + length c.bytes.result.now ≤ vec_capacity c.push-between.new.out =
-    omega (arith, c.requires, c.push-between.ensures.capacity, ap length bytes, ap length spaced, length-append (vec_items c.args.out.now) gap, length-append gap (placed c.args.token).bytes, c.push-between.new.out.ok.0, c.args.out.now.ok.0) in
-    let ok = c.extend-from-slice.ensures.succeeds room in
+    let spaced : vec_items c.push_between.new.out ≡ vec_items c.args.out.now ++ gap = c.push_between.ensures.bytes ∙ ap (λ k. vec_items c.args.out.now ++ between c.args.last k) kind in
+    let room : vec_len c.push_between.new.out + length c.bytes.result.now ≤ vec_capacity c.push_between.new.out =
+    omega (arith, c.requires, c.push_between.ensures.capacity, ap length bytes, ap length spaced, length-append (vec_items c.args.out.now) gap, length-append gap (placed c.args.token).bytes, c.push_between.new.out.ok.0, c.args.out.now.ok.0) in
+    let ok = c.extend_from_slice.ensures.succeeds room in
     record {
-      bytes = chosen _ _ _ _ c.extend-from-slice.ensures.items ok ∙ (λ i. spaced i ++ bytes i) ∙ append_assoc (vec_items c.args.out.now) gap (placed c.args.token).bytes;
-      capacity = omega (arith, c.push-between.ensures.capacity, c.extend-from-slice.ensures.capacity);
+      bytes = chosen _ _ _ _ c.extend_from_slice.ensures.items ok ∙ (λ i. spaced i ++ bytes i) ∙ append_assoc (vec_items c.args.out.now) gap (placed c.args.token).bytes;
+      capacity = omega (arith, c.push_between.ensures.capacity, c.extend_from_slice.ensures.capacity);
     }

@@ -17,20 +17,20 @@ pub returns-in-Word : goal.returns-in-Word
 unfolding ahead
 returns-in-Word c =
     let text = c.args.self.now.text.now in
-    let run = c.run-end-end.ensures in
+    let run = c.run_end-end.ensures in
     let long = run.longest Word refl in
-    let some = run_some C.Word text c.loop-self.self.at c.run-end-end.result Word run.forward c.loop-self-test.true (sym c.in-Word.ensures) refl refl long in
-    let e = c.loop-self.invariant.1 ∙ run_token text c.loop-self.self.at c.run-end-end.result some run.within Word run.alike (λ never. absurd (true≢false never)) long ∙ same_left _ _ _ _ c.loop-self.invariant.0 in
+    let some = run_some C.Word text c.loop-self.self.at c.run_end-end.result Word run.forward c.loop-self-test.true (sym c.in-Word.ensures) refl refl long in
+    let e = c.loop-self.invariant.1 ∙ run_token text c.loop-self.self.at c.run_end-end.result some run.within Word run.alike (λ never. absurd (true≢false never)) long ∙ same_left _ _ _ _ c.loop-self.invariant.0 in
     record { steps = e; goes = firm ((tt, tt, omega (arith, ap length e))) (λ h. search rules) }
 
 pub returns-in-Symbol : goal.returns-in-Symbol
 unfolding ahead
 returns-in-Symbol c =
     let text = c.args.self.now.text.now in
-    let run = c.run-end-end-in-Symbol.ensures in
+    let run = c.run_end-end-in-Symbol.ensures in
     let long = run.longest Symbol refl in
-    let some = run_some C.Symbol text c.loop-self.self.at c.run-end-end-in-Symbol.result Symbol run.forward c.loop-self-test.true (sym c.in-Symbol.ensures) refl refl long in
-    let e = c.loop-self.invariant.1 ∙ run_token text c.loop-self.self.at c.run-end-end-in-Symbol.result some run.within Symbol run.alike (λ never. absurd (true≢false never)) long ∙ same_left _ _ _ _ c.loop-self.invariant.0 in
+    let some = run_some C.Symbol text c.loop-self.self.at c.run_end-end-in-Symbol.result Symbol run.forward c.loop-self-test.true (sym c.in-Symbol.ensures) refl refl long in
+    let e = c.loop-self.invariant.1 ∙ run_token text c.loop-self.self.at c.run_end-end-in-Symbol.result some run.within Symbol run.alike (λ never. absurd (true≢false never)) long ∙ same_left _ _ _ _ c.loop-self.invariant.0 in
     record { steps = e; goes = firm ((tt, tt, omega (arith, ap length e))) (λ h. search rules) }
 
 pub returns-in-Open : goal.returns-in-Open
