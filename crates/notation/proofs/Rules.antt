@@ -63,7 +63,7 @@ module _ (line : List ℕ) {T : Type 0} (otherwise : ℕ → Op → Result T Fau
   pub line_then : (d : Declaration) → LineRules line DeclarationOf (Ok d) → (r : Result T Fault) → otherwise d.function (declared_op d) r → LineRules line otherwise r
   line_then d (inl (x, says, inl (m, word, (function, op)))) r h =
       inl (x, says, inl (m, word, subst (λ (o : Op). otherwise x.function o r) op (subst (λ f. otherwise f (declared_op d) r) function h)))
-  line_then d (inl (x, says, inr (none, is))) r h = absurd (never_both _ _ is)
+  line_then d (inl (x, _, inr (none, is))) r h = absurd (never_both _ _ is)
   line_then d (inr (none, is)) r h = absurd (never_both _ _ is)
 
 pub line_added : (line : List ℕ) (d : Declaration) → LineRules line DeclarationOf (Ok d) → (t u : Table) → u ≡ extended t d.function (declared_op d) → Added t line u
@@ -75,7 +75,7 @@ line_added line d (inl (x, says, inl (m, word, (function, op)))) t u e =
       word = word;
       table = e ∙ (λ i. extended t (function i) (op i));
     }
-line_added line d (inl (x, says, inr (none, is))) t u e = absurd (never_both _ _ is)
+line_added line d (inl (x, _, inr (none, is))) t u e = absurd (never_both _ _ is)
 line_added line d (inr (none, is)) t u e = absurd (never_both _ _ is)
 
 -- The rules of a function and an operator, before others.

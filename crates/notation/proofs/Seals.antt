@@ -1,14 +1,12 @@
 -- Spellings and their first bytes. Assumes nothing.
-use Rattle.std.proofs.Common.{◌≡◌, ℕ, ◌-◌, ◌<◌, ◌≤◌, List, length, get_or, take, set, Some, None, Option, sym, refl, ap, ◌∙◌, subst, ⊎_elim, arith}
-use Rattle.std.specs.Option.{option_map}
-use Rattle.std.proofs.lemmas.List.{get_or-set_same, get_or-set_other, get_or_past, get_or-take, length-set, length-take-le}
-use Rattle.std.proofs.lemmas.Bool.{cases_eq, cases_lt}
+use Rattle.std.proofs.Common.{◌≡◌, ℕ, ◌<◌, ◌≤◌, List, length, get_or, take, ap, ⊎_elim, arith}
+use Rattle.std.proofs.lemmas.List.{get_or-take, length-take-le}
+use Rattle.std.proofs.lemmas.Bool.{cases_lt}
 use Rattle.notation.specs.declared.entry.Entry.{Entry}
 use Rattle.notation.specs.declared.form.Position.{Position}
-use Rattle.notation.specs.Operators.{Op, Spelling}
-use Rattle.notation.specs.Slots.{op_in, table_in}
+use Rattle.notation.specs.Operators.{Spelling}
+use Rattle.notation.specs.Slots.{op_in}
 use Rattle.notation.specs.Tables.{Table, Listed, LawfulTable}
-use Rattle.notation.specs.LookupsLemmas.{inside}
 
 pub spelling_some : (s : List ℕ) → Spelling s → 0 < length s
 spelling_some s h = ⊎_elim (λ k. k.some) (λ k. k.0.some) h.token

@@ -1,5 +1,5 @@
 -- Operators: where each type of operator stands, and what its operands may be.
-use Rattle.std.specs.Prelude.{◌≡◌, ℕ, ◌-◌, ◌≤◌, Bool, true, false, ◌⊎◌, List, [], ◌∷◌, length, Option}
+use Rattle.std.specs.Prelude.{◌≡◌, ℕ, ◌-◌, ◌≤◌, false, ◌⊎◌, List, [], ◌∷◌, length, Option}
 use Rattle.std.specs.Option.{option_map}
 use Rattle.tokens.specs.Bytes.{is_digit}
 use Rattle.tokens.specs.Tokens.{WellFormed}

@@ -1,5 +1,5 @@
 -- Tables told as lists of rows, and the ladder's: C's operators without the conditional.
-use Rattle.std.specs.Prelude.{ℕ, cond, ◌&&◌, List, [], ◌∷◌, Some, None, codes, Option, ◌==◌}
+use Rattle.std.specs.Prelude.{ℕ, cond, List, [], ◌∷◌, Some, None, codes, Option, ◌==◌}
 use Rattle.notation.specs.declared.form.Form.{Form}
 use Rattle.notation.specs.declared.form.Form.TheVariants.{Fy, Yf, Xfy, Yfx}
 use Rattle.notation.specs.declared.form.Position.{Position}

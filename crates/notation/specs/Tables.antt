@@ -1,11 +1,10 @@
 -- What a notation means: for each function its operator, or none.
 use Rattle.std.specs.Prelude.{◌≡◌, ℕ, zero, suc, ◌<◌, ◌≤◌, Bool, true, false, cond, ◌&&◌, List, Some, None, Option, ◌≢◌, nat_lt}
 use Rattle.std.specs.Str.{bytes_eq}
-use Rattle.notation.specs.declared.form.Form.{Form}
 use Rattle.notation.specs.declared.form.Position.{Position}
 use Rattle.notation.specs.declared.form.Position.TheVariants.{Before, After}
-use Rattle.notation.specs.declared.form.Side.TheVariants.{X, Y}
-use Rattle.notation.specs.Operators.{Op, position_of, operands_of, left_side, right_side, limit, Spelling}
+use Rattle.notation.specs.declared.form.Side.TheVariants.{Y}
+use Rattle.notation.specs.Operators.{Op, position_of, operands_of, left_side, right_side, Spelling}
 
 abbrev pub Table : Type 0
 Table = ℕ → Option Op

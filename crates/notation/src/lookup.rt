@@ -9,7 +9,7 @@ use crate::operator::Operator;
 
 // The function that is listed under the spelling in the position, if there is one.
 fn listed_function<N: Notation>(notation: &N, position: Position, spelling: &[u8]) -> Option<u8>
-    ensures { result ≡ listed (table notation.now) position spelling.now }
+    ensures { result ≡ listed (N.table notation.now) position spelling.now }
 {
     match position {
         Position::Before => notation.before(spelling),
@@ -24,7 +24,7 @@ pub fn listed_operator<'a, N: Notation>(
     position: Position,
     spelling: &[u8],
 ) -> Option<(u8, Operator<'a>)>
-    ensures { Finds (table notation.now) position spelling.now result }
+    ensures { Finds (N.table notation.now) position spelling.now result }
 {
     let function = listed_function(notation, position, spelling)?;
     let operator = notation.operator(function)?;

@@ -6,18 +6,18 @@ use Rattle.tokens.specs.Tokens.{placed}
 use Rattle.notation.proofs.Spellings.{no_token, not_whole, bracket, symbol_decides, word_decides}
 use Rattle.notation.proofs.checking.is_spelling.Goals as goal
 
-pub returns-in-default : goal.returns-in-default
-returns-in-default c = (λ never. absurd (false≢true never), λ s. absurd (no_token _ _ c.new-tokens.ensures.tokens c.in-default.ensures.steps s))
+pub returns-in_default : goal.returns-in_default
+returns-in_default c = (λ never. absurd (false≢true never), λ s. absurd (no_token _ _ c.new-tokens.ensures.tokens c.in_default.ensures.steps s))
 
 pub returns-in-Symbol : goal.returns-in-Symbol
 returns-in-Symbol c =
     let first = c.in-Some.ensures.steps ∙ ap (λ (t : Token). placed t ∷ ahead c.next.new.self) c.in-Symbol.is in
-    symbol_decides _ _ c.new-tokens.ensures.tokens _ _ first c.if-bytes-gt-MAX-SPELLING-BYTES.false refl
+    symbol_decides _ _ c.new-tokens.ensures.tokens _ _ first c.if-bytes-gt-MAX_SPELLING_BYTES.false refl
 
 pub returns-then-word-bytes : goal.returns-then-word-bytes
 returns-then-word-bytes c =
     let first = c.in-Some.ensures.steps ∙ ap (λ (t : Token). placed t ∷ ahead c.next.new.self) c.in-Word.is in
-    word_decides _ _ c.new-tokens.ensures.tokens _ _ first c.if-bytes-gt-MAX-SPELLING-BYTES.false refl c.if-word-bytes.true _ c.digit-first.ensures
+    word_decides _ _ c.new-tokens.ensures.tokens _ _ first c.if-bytes-gt-MAX_SPELLING_BYTES.false refl c.if-word-bytes.true _ c.digit_first.ensures
 
 pub returns-else-word-bytes : goal.returns-else-word-bytes
 returns-else-word-bytes c =

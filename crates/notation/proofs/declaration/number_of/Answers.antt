@@ -8,20 +8,20 @@ use Rattle.notation.specs.Lines.{decimal}
 use Rattle.notation.proofs.Lines.{decimal_push, decimal_small, small_front}
 use Rattle.notation.proofs.declaration.number_of.Goals as goal
 
-pub returns-then-not-is-ascii-digit : goal.returns-then-not-is-ascii-digit
-returns-then-not-is-ascii-digit c n h =
-    both_ways _ (sym c.if-not-is-ascii-digit.ensures.value) (All-get_or (λ b. is_digit b ≡ true) c.args.digits.now c.loop-digit.digit-index 0 c.loop-digit-test.true h.each)
+pub returns-then-not-is_ascii_digit : goal.returns-then-not-is_ascii_digit
+returns-then-not-is_ascii_digit c n h =
+    both_ways _ (sym c.if-not-is_ascii_digit.ensures.value) (All-get_or (λ b. is_digit b ≡ true) c.args.digits.now c.loop-digit.digit-index 0 c.loop-digit-test.true h.each)
 
 -- before a fourth digit the value is small
-pub overflow-mul-value : goal.overflow-mul-value
-overflow-mul-value c =
-    let few : length (take c.loop-digit.digit-index c.args.digits.now) ≤ 3 = small_front _ _ c.loop-digit-test.true c.if-digits-gt-MAX-DIGITS.false in
+pub overflow_mul-value : goal.overflow_mul-value
+overflow_mul-value c =
+    let few : length (take c.loop-digit.digit-index c.args.digits.now) ≤ 3 = small_front _ _ c.loop-digit-test.true c.if-digits-gt-MAX_DIGITS.false in
     omega (arith, c.loop-digit.invariant.0, decimal_small (take c.loop-digit.digit-index c.args.digits.now) c.loop-digit.invariant.1 few)
 
-pub overflow-add-value : goal.overflow-add-value
-overflow-add-value c =
-    let few : length (take c.loop-digit.digit-index c.args.digits.now) ≤ 3 = small_front _ _ c.loop-digit-test.true c.if-digits-gt-MAX-DIGITS.false in
-    omega (arith, c.loop-digit.invariant.0, decimal_small (take c.loop-digit.digit-index c.args.digits.now) c.loop-digit.invariant.1 few, c.from.ensures, c.if-not-is-ascii-digit.ensures.cases)
+pub overflow_add-value : goal.overflow_add-value
+overflow_add-value c =
+    let few : length (take c.loop-digit.digit-index c.args.digits.now) ≤ 3 = small_front _ _ c.loop-digit-test.true c.if-digits-gt-MAX_DIGITS.false in
+    omega (arith, c.loop-digit.invariant.0, decimal_small (take c.loop-digit.digit-index c.args.digits.now) c.loop-digit.invariant.1 few, c.from.ensures, c.if-not-is_ascii_digit.ensures.cases)
 
 pub loop-digit-preserved : goal.loop-digit-preserved
 loop-digit-preserved c =
@@ -29,15 +29,15 @@ loop-digit-preserved c =
     let i = c.loop-digit.digit-index in
     let lt = c.loop-digit-test.true in (
       (λ k. c.loop-digit.invariant.0 k * 10 + c.from.ensures k) ∙ sym (decimal_push (take i digits) (get_or digits i 0)) ∙ ap decimal (sym (take_more digits i 0 lt)),
-      All-more (λ b. is_digit b ≡ true) digits i 0 lt c.loop-digit.invariant.1 (sym c.if-not-is-ascii-digit.ensures.value),
+      All-more (λ b. is_digit b ≡ true) digits i 0 lt c.loop-digit.invariant.1 (sym c.if-not-is_ascii_digit.ensures.value),
     )
 
 pub returns : goal.returns
 returns c =
     let all = take_all c.loop-digit.digit-index c.args.digits.now c.loop-digit-test.false in
     record {
-      some = let ne = eqb-false (length c.args.digits.now) 0 (sym c.if-is-empty.ensures) in omega arith;
-      few = c.if-digits-gt-MAX-DIGITS.false;
+      some = let ne = eqb-false (length c.args.digits.now) 0 (sym c.if-is_empty.ensures) in omega arith;
+      few = c.if-digits-gt-MAX_DIGITS.false;
       each = subst (All (λ b. is_digit b ≡ true)) all c.loop-digit.invariant.1;
       value = c.loop-digit.invariant.0 ∙ ap decimal all;
     }

@@ -1,9 +1,9 @@
-use Rattle.std.proofs.Common.{◌≡◌, ℕ, ◌-◌, ◌<◌, length, get_or, replicate, Some, None, sym, refl, ap, ◌∙◌, subst, arith, rules}
+use Rattle.std.proofs.Common.{◌-◌, ◌<◌, length, replicate, None, sym, refl, ap, ◌∙◌, arith, rules}
 use Rattle.std.specs.Option.{option_map}
-use Rattle.std.proofs.lemmas.List.{get_or_default, get_or-replicate, length-replicate}
+use Rattle.std.proofs.lemmas.List.{get_or_default, get_or-replicate}
 use Rattle.notation.specs.Slots.{op_in}
 use Rattle.notation.specs.Views.{open_table}
-use Rattle.notation.proofs.Chained.{ChainedFrom, chained_none, chained_past, chained_more, chained_all}
+use Rattle.notation.proofs.Chained.{chained_none, chained_past, chained_more, chained_all}
 use Rattle.notation.specs.Laws.{lawful_in}
 use Rattle.notation.proofs.Seals.{entry_first}
 use Rattle.notation.proofs.sealed.link.Goals as goal
@@ -17,7 +17,7 @@ loop-function-preserved c =
     let list = c.args.list.now in
     let i = c.loop-function.function in
     let within : i - 1 < length list.slots = search rules in
-    let slot = get_or_default list.slots (i - 1) None c.index-list-function.result within ∙ c.in-default.is in
+    let slot = get_or_default list.slots (i - 1) None c.index-list-function.result within ∙ c.in_default.is in
     chained_past (open_table list) c.loop-function.firsts c.loop-function.nexts i c.loop-function-test.true c.loop-function.invariant (ap (option_map op_in) slot)
 
 pub loop-function-preserved-in-Some : goal.loop-function-preserved-in-Some

@@ -6,4 +6,4 @@ use Rattle.notation.proofs.ladder.LadderNotation.after.Goals as goal
 
 pub returns : goal.returns
 unfolding ladder_table
-returns c = c.ladder-after.ensures ∙ sym (rows_listed After c.args.spelling.now ladder_rows refl)
+returns c = c.ladder_after.ensures ∙ sym (rows_listed After c.args.spelling.now ladder_rows refl)

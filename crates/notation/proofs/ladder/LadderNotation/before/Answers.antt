@@ -6,4 +6,4 @@ use Rattle.notation.proofs.ladder.LadderNotation.before.Goals as goal
 
 pub returns : goal.returns
 unfolding ladder_table
-returns c = c.ladder-before.ensures ∙ sym (rows_listed Before c.args.spelling.now ladder_rows refl)
+returns c = c.ladder_before.ensures ∙ sym (rows_listed Before c.args.spelling.now ladder_rows refl)

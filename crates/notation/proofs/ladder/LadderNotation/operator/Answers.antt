@@ -3,4 +3,4 @@ use Rattle.notation.proofs.ladder.LadderNotation.operator.Goals as goal
 
 pub returns : goal.returns
 unfolding ladder_table
-returns c = c.ladder-operator.ensures
+returns c = c.ladder_operator.ensures

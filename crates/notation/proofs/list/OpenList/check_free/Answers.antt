@@ -8,23 +8,23 @@ use Rattle.notation.specs.Laws.{lawful_in}
 use Rattle.notation.proofs.Rules.{table_listed, table_taken, table_mixed, table_accepts}
 use Rattle.notation.proofs.list.OpenList.check_free.Goals as goal
 
-pub returns-then-is-some : goal.returns-then-is-some
-returns-then-is-some c =
+pub returns-then-is_some : goal.returns-then-is_some
+returns-then-is_some c =
     let list = c.args.self.now in
     let f = c.args.declaration.function in
     let within : c.from.result < length list.slots = search rules in
     let slot = slot_test list.slots c.from.result f c.index-self-from.result within c.from.ensures in
-    table_listed (open_table list) f (declared_op c.args.declaration) (slot ∙ sym c.if-is-some.ensures)
+    table_listed (open_table list) f (declared_op c.args.declaration) (slot ∙ sym c.if-is_some.ensures)
 
-pub returns-then-is-some-2 : goal.returns-then-is-some-2
-returns-then-is-some-2 c =
+pub returns-then-is_some-2 : goal.returns-then-is_some-2
+returns-then-is_some-2 c =
     let list = c.args.self.now in
     let f = c.args.declaration.function in
     let o = declared_op c.args.declaration in
     let within : c.from.result < length list.slots = search rules in
     let slot = slot_test list.slots c.from.result f c.index-self-from.result within c.from.ensures in
     let place = ap (λ (p : Position). is_some (listed (open_table list) p o.spelling)) (sym c.position-position.ensures) in
-    table_taken (open_table list) f o (slot ∙ sym c.if-is-some.ensures) (place ∙ sym (ap is_some c.listed-from.ensures) ∙ sym c.if-is-some-2.ensures)
+    table_taken (open_table list) f o (slot ∙ sym c.if-is_some.ensures) (place ∙ sym (ap is_some c.listed_from.ensures) ∙ sym c.if-is_some-2.ensures)
 
 pub returns-then-mixes : goal.returns-then-mixes
 returns-then-mixes c =
@@ -34,9 +34,9 @@ returns-then-mixes c =
     let within : c.from.result < length list.slots = search rules in
     let slot = slot_test list.slots c.from.result f c.index-self-from.result within c.from.ensures in
     let place = ap (λ (p : Position). is_some (listed (open_table list) p o.spelling)) (sym c.position-position.ensures) in
-    let untaken = place ∙ sym (ap is_some c.listed-from.ensures) ∙ sym c.if-is-some-2.ensures in
+    let untaken = place ∙ sym (ap is_some c.listed_from.ensures) ∙ sym c.if-is_some-2.ensures in
     let it = c.if-mixes.ensures.0 refl in
-    table_mixed (open_table list) f o (slot ∙ sym c.if-is-some.ensures) (lawful_in (open_table list) list.lawful) untaken it.0 it.1
+    table_mixed (open_table list) f o (slot ∙ sym c.if-is_some.ensures) (lawful_in (open_table list) list.lawful) untaken it.0 it.1
 
 pub returns : goal.returns
 returns c =
@@ -46,5 +46,5 @@ returns c =
     let within : c.from.result < length list.slots = search rules in
     let slot = slot_test list.slots c.from.result f c.index-self-from.result within c.from.ensures in
     let place = ap (λ (p : Position). is_some (listed (open_table list) p o.spelling)) (sym c.position-position.ensures) in
-    let untaken = place ∙ sym (ap is_some c.listed-from.ensures) ∙ sym c.if-is-some-2.ensures in
-    table_accepts (open_table list) f o (slot ∙ sym c.if-is-some.ensures) (lawful_in (open_table list) list.lawful) untaken (λ g it. false≢true (c.if-mixes.ensures.1 (g, it)))
+    let untaken = place ∙ sym (ap is_some c.listed_from.ensures) ∙ sym c.if-is_some-2.ensures in
+    table_accepts (open_table list) f o (slot ∙ sym c.if-is_some.ensures) (lawful_in (open_table list) list.lawful) untaken (λ g it. false≢true (c.if-mixes.ensures.1 (g, it)))

@@ -10,8 +10,8 @@ use Rattle.notation.specs.Laws.{lawful_in}
 use Rattle.notation.specs.LookupsLemmas.{test_listed, listed_test, is_listed_lem, listed_none, inside}
 use Rattle.notation.proofs.list.OpenList.listed_from.Goals as goal
 
-pub returns-then-slot-lists : goal.returns-then-slot-lists
-returns-then-slot-lists c =
+pub returns-then-slot_lists : goal.returns-then-slot_lists
+returns-then-slot_lists c =
     let list = c.args.self.now in
     let t = open_table list in
     let p = c.args.position in
@@ -19,7 +19,7 @@ returns-then-slot-lists c =
     let i = c.loop-function.function in
     let within : i < length list.slots = search rules in
     let slot = get_or_default list.slots i None c.index-self-function.result within in
-    let is = test_listed t p s i (ap (λ (o : Option Entry). is_listed p s (option_map op_in o)) slot ∙ sym c.if-slot-lists.ensures) in
+    let is = test_listed t p s i (ap (λ (o : Option Entry). is_listed p s (option_map op_in o)) slot ∙ sym c.if-slot_lists.ensures) in
     sym (is_listed_lem t p s (lawful_in t list.lawful) i is)
 
 pub loop-function-preserved : goal.loop-function-preserved
@@ -32,7 +32,7 @@ loop-function-preserved c =
     let within : i < length list.slots = search rules in
     let slot = get_or_default list.slots i None c.index-self-function.result within in
     below_more _ _ c.loop-function.invariant
-    (λ is. both_ways (is_listed p s (t i)) (ap (λ (o : Option Entry). is_listed p s (option_map op_in o)) slot ∙ sym c.if-slot-lists.ensures) (listed_test t p s i is))
+    (λ is. both_ways (is_listed p s (t i)) (ap (λ (o : Option Entry). is_listed p s (option_map op_in o)) slot ∙ sym c.if-slot_lists.ensures) (listed_test t p s i is))
 
 pub returns : goal.returns
 returns c =

@@ -8,13 +8,13 @@ use Rattle.notation.specs.Laws.{lawful_in}
 use Rattle.notation.specs.LookupsLemmas.{inside}
 use Rattle.notation.proofs.list.OpenList.mixes.Goals as goal
 
-pub returns-then-slot-mixes : goal.returns-then-slot-mixes
-returns-then-slot-mixes c =
+pub returns-then-slot_mixes : goal.returns-then-slot_mixes
+returns-then-slot_mixes c =
     let list = c.args.self.now in
     let i = c.loop-slot.slot-index in
     let within : i < length list.slots = search rules in
     let slot = get_or_default list.slots i None c.slot-item.result within in
-    let it = c.if-slot-mixes.ensures.0 refl in
+    let it = c.if-slot_mixes.ensures.0 refl in
     (λ _. (i, record { op = it.0; has = ap (option_map op_in) slot ∙ it.1; mixed = it.2 }), λ _. refl)
 
 pub loop-slot-preserved : goal.loop-slot-preserved
@@ -23,7 +23,7 @@ loop-slot-preserved c =
     let i = c.loop-slot.slot-index in
     let within : i < length list.slots = search rules in
     let slot = get_or_default list.slots i None c.slot-item.result within in
-    below_more _ _ c.loop-slot.invariant (λ it. false≢true (c.if-slot-mixes.ensures.1 (it.op, ap (option_map op_in) (sym slot) ∙ it.has, it.mixed)))
+    below_more _ _ c.loop-slot.invariant (λ it. false≢true (c.if-slot_mixes.ensures.1 (it.op, ap (option_map op_in) (sym slot) ∙ it.has, it.mixed)))
 
 pub returns : goal.returns
 returns c =

@@ -1,4 +1,4 @@
-use Rattle.std.proofs.Common.{◌≡◌, ℕ, ◌<◌, length, get_or, None, Option, sym, refl, ap, ◌∙◌, arith, rules}
+use Rattle.std.proofs.Common.{◌≡◌, ◌<◌, length, get_or, None, Option, sym, refl, ap, ◌∙◌, arith, rules}
 use Rattle.std.specs.Option.{option_map}
 use Rattle.std.proofs.lemmas.List.{get_or_default}
 use Rattle.std.proofs.lemmas.Bool.{both_ways}
@@ -13,8 +13,8 @@ use Rattle.notation.proofs.Seals.{none_empty}
 use Rattle.notation.proofs.list.SealedList.listed.Goals as goal
 use Rattle.notation.proofs.list.SealedList.listed.Goals.{After-from-function-in-loop-function}
 
-pub returns-in-default : goal.returns-in-default
-returns-in-default c =
+pub returns-in_default : goal.returns-in_default
+returns-in_default c =
     let l = c.args.self.now in
     let p = c.args.position in
     let s = c.args.spelling.now in
@@ -25,7 +25,7 @@ pub loop-function-init : goal.loop-function-init
 loop-function-init c =
     let l = c.args.self.now in
     let s = c.args.spelling.now in
-    let small : get_or s 0 0 < 256 = (c.type-inv.spelling 0).fits in
+    let small : get_or s 0 0 < 256 = (c.type_inv.spelling 0).fits in
     along_start (sealed_table l) c.args.position s (get_or s 0 0) refl c.from-function.result (c.from-function.ensures ∙ ap (λ n. get_or l.firsts n 0) c.from.ensures ∙ l.first (get_or s 0 0) small)
 
 -- the search goes on with the next function that begins as the spelling does
@@ -40,7 +40,7 @@ further c =
     let lt = c.loop-function-test.true in
     let within : f < length l.list.slots = search rules in
     let slot = get_or_default l.list.slots f None c.index-self-function.result within in
-    let unlisted = ap (λ (o : Option Entry). is_listed p s (option_map op_in o)) slot ∙ sym c.if-slot-lists.ensures in
+    let unlisted = ap (λ (o : Option Entry). is_listed p s (option_map op_in o)) slot ∙ sym c.if-slot_lists.ensures in
     let begins = along_begins t p s (get_or s 0 0) refl f inv lt in
     along_more t p s (get_or s 0 0) refl f inv lt (λ is. both_ways (is_listed p s (t f)) unlisted (listed_test t p s f is)) c.from-function-in-loop-function.result (c.from-function-in-loop-function.ensures ∙ l.next f (get_or s 0 0) begins)
 
@@ -53,8 +53,8 @@ loop-function-smaller c =
 pub loop-function-preserved : goal.loop-function-preserved
 loop-function-preserved c = (further (goal.at.loop-function-preserved c).After-from-function-in-loop-function).0
 
-pub returns-then-slot-lists : goal.returns-then-slot-lists
-returns-then-slot-lists c =
+pub returns-then-slot_lists : goal.returns-then-slot_lists
+returns-then-slot_lists c =
     let l = c.args.self.now in
     let t = sealed_table l in
     let p = c.args.position in
@@ -62,7 +62,7 @@ returns-then-slot-lists c =
     let f = c.loop-function.function in
     let within : f < length l.list.slots = search rules in
     let slot = get_or_default l.list.slots f None c.index-self-function.result within in
-    let is = test_listed t p s f (ap (λ (o : Option Entry). is_listed p s (option_map op_in o)) slot ∙ sym c.if-slot-lists.ensures) in
+    let is = test_listed t p s f (ap (λ (o : Option Entry). is_listed p s (option_map op_in o)) slot ∙ sym c.if-slot_lists.ensures) in
     sym (is_listed_lem t p s (lawful_in t l.list.lawful) f is)
 
 pub returns : goal.returns
