@@ -14,7 +14,7 @@ use Rattle.grammar.specs.declared.taker.Taker.TheVariants.{Left, Right, Neither}
 use Rattle.grammar.specs.Trees.{Bracketed}
 use Rattle.grammar.specs.Weights.{fixity_in, operator_in, left_weight, right_weight, AdmitsLeft}
 use Rattle.grammar.specs.Lawful.{Name, Lawful}
-use Rattle.grammar.specs.Reading.{word, opening, closing, kind_of_spelling, sign, Formed, sign_of, lexemes}
+use Rattle.grammar.specs.Reading.{opening, closing, kind_of_spelling, sign, Formed, sign_of, lexemes}
 use Rattle.grammar.specs.Neighbours.{taker}
 use Rattle.grammar.specs.Machine.{Pending, Frame, State, start, function_of, completed, closed, ended, standing, decided, settled, is_name, begun, continued, operand_step, operator_step, step, run, outcome, accepted, MachineFindsOnlyLawful}
 use Rattle.grammar.specs.Machine.Pending.{prefixing, infixing}

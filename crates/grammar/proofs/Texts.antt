@@ -4,7 +4,7 @@ use Rattle.std.specs.List.{AllByRecursion as All}
 use Rattle.std.proofs.ByRecursion.{All-append, All-weaker}
 use Rattle.tokens.specs.declared.token.TokenKind.{TokenKind}
 use Rattle.tokens.specs.Limits.{Lawful as LawfulByte}
-use Rattle.tokens.specs.Spacing.{between as gap, spaced_after, spaced}
+use Rattle.tokens.specs.Spacing.{between as gap, spaced_after}
 use Rattle.tokens.specs.Tokens.{Lexeme, kind_of, together}
 use Rattle.tokens.proofs.Cuts.{separator_none}
 use Rattle.tokens.proofs.Spaces.{spacing_keeps_tokens}

@@ -22,9 +22,9 @@ pub when_so : (r : Bool) {P Q R S : Type 0} → (P → R) → (Q → S) → Matc
 when_so true f g h = f h
 when_so false f g h = g h
 
-pub when_cond : (r : Bool) {P Q R S : Type 0} → (P → R) → (Q → S) → cond r P Q → MatchBool r R S
-when_cond true f g h = f h
-when_cond false f g h = g h
+pub by_test : {P Q : Type 0} (r : Bool) → (r ≡ true → P) → (r ≡ false → Q) → MatchBool r P Q
+by_test true f g = f refl
+by_test false f g = g refl
 
 -- word bytes are those of the class, and of the kind
 class_is : (c : ByteClass) → kind_in c ≡ Some Word → c ≡ C.Word

@@ -19,21 +19,21 @@ module _ (input start : List ℕ) (final : List ℕ) where
   accepted (Ok x) e added whole out = (added, whole, output_only input added out)
   accepted (Err x) e added whole out = absurd (false≢true (sym e))
 
-pub returns-then-is-err : goal.returns-then-is-err
-returns-then-is-err c =
-    let told = c.translate-input-done.ensures in
+pub returns-then-is_err : goal.returns-then-is_err
+returns-then-is_err c =
+    let told = c.translate_input-done.ensures in
     let out = c.args.out.now in
     let mark : length (vec_items out) ≡ c.len-mark.result = sym (c.len-mark.ensures ∙ out.ok.0) in
     let same = c.truncate.ensures.items ∙ ap (take c.len-mark.result) told.answer.1 ∙ take_at (vec_items out) told.answer.0 c.len-mark.result mark in
     record {
-      answer = refused c.args.input.now (vec_items out) (vec_items c.truncate.new.self) c.translate-input-done.result (sym c.if-is-err.ensures.value) same;
+      answer = refused c.args.input.now (vec_items out) (vec_items c.truncate.new.self) c.translate_input-done.result (sym c.if-is_err.ensures.value) same;
       succeeds = told.succeeds;
     }
 
-pub returns-else-is-err : goal.returns-else-is-err
-returns-else-is-err c =
-    let told = c.translate-input-done.ensures in
+pub returns-else-is_err : goal.returns-else-is_err
+returns-else-is_err c =
+    let told = c.translate_input-done.ensures in
     record {
-      answer = accepted c.args.input.now (vec_items c.args.out.now) (vec_items c.translate-input-done.new.out) c.translate-input-done.result (sym c.if-is-err.ensures.value) told.answer.0 told.answer.1 told.answer.2;
+      answer = accepted c.args.input.now (vec_items c.args.out.now) (vec_items c.translate_input-done.new.out) c.translate_input-done.result (sym c.if-is_err.ensures.value) told.answer.0 told.answer.1 told.answer.2;
       succeeds = told.succeeds;
     }

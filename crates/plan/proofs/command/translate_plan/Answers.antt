@@ -10,11 +10,11 @@ use Rattle.plan.specs.PlanLinesAhead.{plan_ahead, plan_count}
 use Rattle.plan.specs.Reports.{tail_line}
 use Rattle.plan.proofs.Outputs.{Sofar, sofar_none, sofar_more, sofar_end, line_room, tail_room, one_line, few_pairs}
 use Rattle.plan.proofs.command.translate_plan.Goals as goal
-use Rattle.plan.proofs.command.translate_plan.Goals.{In-ok-outcome}
+use Rattle.plan.proofs.command.translate_plan.Goals.{In_ok-outcome}
 
 pub loop-line-init : goal.loop-line-init
 loop-line-init c =
-    let is = c.into-iter-line-iterator.ensures.into-iter-gives in
+    let is = c.into_iter-line-iterator.ensures.into_iter_gives in
     let ahead = ap plan_ahead is ∙ c.new-line-items.ensures.ahead in
     let none = ap plan_count is ∙ c.new-line-items.ensures.count in
     let all = up_to_tail (numbered_ahead c.args.lines) in
@@ -23,40 +23,40 @@ loop-line-init c =
     let cap = vec_capacity c.args.out.now in (
       tt,
       tt,
-      subst (λ n. Sofar all before out cap (plan_ahead c.into-iter-line-iterator.result) n out 0 0) (sym none) (subst (λ (ls : List (List ℕ)). Sofar all before out cap ls before out 0 0) (sym ahead) (sofar_none all before out cap)),
+      subst (λ n. Sofar all before out cap (plan_ahead c.into_iter-line-iterator.result) n out 0 0) (sym none) (subst (λ (ls : List (List ℕ)). Sofar all before out cap ls before out 0 0) (sym ahead) (sofar_none all before out cap)),
       omega arith,
     )
 
 -- the line comes out with its number, one more than those before it
-came : (c : In-ok-outcome) → ComesOut (plan_count c.loop-line.line-iterator + 1) c.in-Some.line.bytes.now c.in-ok-outcome.outcome c.in-ok-outcome.ensures.answer.0
+came : (c : In_ok-outcome) → ComesOut (plan_count c.loop-line.line-iterator + 1) c.in-Some.line.bytes.now c.in_ok-outcome.outcome c.in_ok-outcome.ensures.answer.0
 came c =
-    subst (λ n. ComesOut n c.in-Some.line.bytes.now c.in-ok-outcome.outcome c.in-ok-outcome.ensures.answer.0) c.in-Some.ensures.steps.2 c.in-ok-outcome.ensures.answer.2.is
+    subst (λ n. ComesOut n c.in-Some.line.bytes.now c.in_ok-outcome.outcome c.in_ok-outcome.ensures.answer.0) c.in-Some.ensures.steps.2 c.in_ok-outcome.ensures.answer.2.is
 
 pub count-requires : goal.count-requires
 count-requires c =
     let sofar = c.loop-line.invariant.2 in
-    let o = c.in-ok-outcome.outcome in
-    let pairs = few_pairs _ _ o _ (came (goal.at.count-requires c).In-ok-outcome) in
+    let o = c.in_ok-outcome.outcome in
+    let pairs = few_pairs _ _ o _ (came (goal.at.count-requires c).In_ok-outcome) in
     record { lines = omega (arith, sofar.few_lines, c.in-Some.ensures.steps.1, one_line o); pairs = omega (arith, sofar.few_pairs, c.in-Some.ensures.steps.1, pairs) }
 
 pub loop-line-preserved : goal.loop-line-preserved
 loop-line-preserved c =
-    let told = c.in-ok-outcome.ensures in
+    let told = c.in_ok-outcome.ensures in
     let bytes = told.answer.0 in
     let step = c.in-Some.ensures.steps in
     let out = c.loop-line.out in
-    let short : length bytes ≤ length c.in-Some.line.bytes.now + 65 = omega (arith, told.len, ap length told.answer.1, length-append (vec_items out) bytes, out.ok.0, c.translate-line.new.out.ok.0) in (
+    let short : length bytes ≤ length c.in-Some.line.bytes.now + 65 = omega (arith, told.len, ap length told.answer.1, length-append (vec_items out) bytes, out.ok.0, c.translate_line.new.out.ok.0) in (
       tt,
       tt,
       sofar_more (up_to_tail (numbered_ahead c.args.lines)) c.args.lines.count (vec_items c.args.out.now) (vec_capacity c.args.out.now) (plan_ahead c.loop-line.line-iterator) (plan_count c.loop-line.line-iterator) (vec_items out) c.loop-line.tally.lines c.loop-line.tally.pairs c.loop-line.invariant.2 c.in-Some.line.bytes.now (plan_ahead c.next.new.self) step.0
-          c.in-ok-outcome.outcome bytes (came (goal.at.loop-line-preserved c).In-ok-outcome) short _ _ _ _ step.3 told.answer.1 c.count.ensures.lines c.count.ensures.pairs,
+          c.in_ok-outcome.outcome bytes (came (goal.at.loop-line-preserved c).In_ok-outcome) short _ _ _ _ step.3 told.answer.1 c.count.ensures.lines c.count.ensures.pairs,
       omega (arith, c.loop-line.invariant.3, told.capacity),
     )
 
-pub returns-in-err-outcome : goal.returns-in-err-outcome
-returns-in-err-outcome c =
-    let p = err_from_is_err_and c.from-residual.result c.from-residual.ensures.1 in
-    let told = c.in-err-outcome.ensures in
+pub returns-in_err-outcome : goal.returns-in_err-outcome
+returns-in_err-outcome c =
+    let p = err_from_is_err_and c.from_residual.result c.from_residual.ensures.1 in
+    let told = c.in_err-outcome.ensures in
     let inv = c.loop-line.invariant in
     let all = up_to_tail (numbered_ahead c.args.lines) in
     let fits : vec_len c.args.out.now + room_for all ≤ vec_capacity c.args.out.now → vec_len c.loop-line.out + (length c.in-Some.line.bytes.now + 65) ≤ vec_capacity c.loop-line.out =
@@ -77,6 +77,6 @@ returns c =
     let fits : vec_len c.args.out.now + room_for all ≤ vec_capacity c.args.out.now → vec_len c.loop-line.out + 65 ≤ vec_capacity c.loop-line.out =
     λ room. subst (λ n. n + 65 ≤ vec_capacity c.loop-line.out) (sym c.loop-line.out.ok.0) (tail_room _ _ _ _ _ _ _ _ _ inv.2 end (vec_capacity c.loop-line.out) (subst (λ n. n + room_for all ≤ vec_capacity c.args.out.now) c.args.out.now.ok.0 room) inv.3) in
     record {
-      answer = after_tail (PlanOutput c.args.lines.count all) _ _ _ _ _ (_, inv.2.bytes) (sofar_end _ _ _ _ _ _ _ _ _ inv.2 end) c.push-tail.ensures.bytes;
-      succeeds = λ room. c.push-tail.ensures.succeeds (fits room);
+      answer = after_tail (PlanOutput c.args.lines.count all) _ _ _ _ _ (_, inv.2.bytes) (sofar_end _ _ _ _ _ _ _ _ _ inv.2 end) c.push_tail.ensures.bytes;
+      succeeds = λ room. c.push_tail.ensures.succeeds (fits room);
     }

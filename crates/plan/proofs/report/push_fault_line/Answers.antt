@@ -8,17 +8,17 @@ returns c =
     let kind = c.args.fault.kind in
     let all = fault_bytes (vec_items c.args.out.now) (letter_of kind) (decimal (number_of kind)) (decimal c.args.line) (decimal c.args.fault.place) in
     let start = c.reserve.ensures.items in
-    let mark = c.push-reserved.ensures.items in
+    let mark = c.push_reserved.ensures.items in
     let letter = c.letter.ensures in
     let number = c.number.ensures in
     let wide = c.from.ensures in
-    let first = c.push-field.ensures.bytes in
-    let second = c.push-field-2.ensures.bytes in
-    let third = c.push-field-3.ensures.bytes in
-    let end = c.push-reserved-2.ensures.items in
+    let first = c.push_field.ensures.bytes in
+    let second = c.push_field-2.ensures.bytes in
+    let third = c.push_field-3.ensures.bytes in
+    let end = c.push_reserved-2.ensures.items in
     record {
       bytes = cc;
-      len = omega (arith, c.reserve.ensures.len, c.push-reserved.ensures.len, c.push-field.ensures.len, c.push-field-2.ensures.len, c.push-field-3.ensures.len, c.push-reserved-2.ensures.len);
-      capacity = omega (arith, c.reserve.ensures.capacity, c.push-reserved.ensures.capacity, c.push-field.ensures.capacity, c.push-field-2.ensures.capacity, c.push-field-3.ensures.capacity, c.push-reserved-2.ensures.capacity);
+      len = omega (arith, c.reserve.ensures.len, c.push_reserved.ensures.len, c.push_field.ensures.len, c.push_field-2.ensures.len, c.push_field-3.ensures.len, c.push_reserved-2.ensures.len);
+      capacity = omega (arith, c.reserve.ensures.capacity, c.push_reserved.ensures.capacity, c.push_field.ensures.capacity, c.push_field-2.ensures.capacity, c.push_field-3.ensures.capacity, c.push_reserved-2.ensures.capacity);
       succeeds = λ _. refl;
     }

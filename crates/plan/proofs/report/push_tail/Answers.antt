@@ -6,11 +6,11 @@ pub returns : goal.returns
 returns c =
     let all = tail_bytes (vec_items c.args.out.now) (decimal c.args.lines) (decimal c.args.pairs) in
     let start = c.reserve.ensures.items in
-    let lines = c.push-field.ensures.bytes in
-    let pairs = c.push-field-2.ensures.bytes in
-    let end = c.push-reserved.ensures.items in
+    let lines = c.push_field.ensures.bytes in
+    let pairs = c.push_field-2.ensures.bytes in
+    let end = c.push_reserved.ensures.items in
     record {
       bytes = cc;
-      capacity = omega (arith, c.reserve.ensures.capacity, c.push-field.ensures.capacity, c.push-field-2.ensures.capacity, c.push-reserved.ensures.capacity);
+      capacity = omega (arith, c.reserve.ensures.capacity, c.push_field.ensures.capacity, c.push_field-2.ensures.capacity, c.push_reserved.ensures.capacity);
       succeeds = λ _. refl;
     }

@@ -17,40 +17,40 @@ loop-line-init c =
 pub loop-line-preserved : goal.loop-line-preserved
 loop-line-preserved c =
     let step = c.in-Some.ensures.steps in
-    let told = c.in-ok-declare-line.ensures in
+    let told = c.in_ok-declare_line.ensures in
     let lines = c.loop-line.lines in (
       tt,
       tt,
       λ r h.
           c.loop-line.invariant.2 r
-          (list_goes_on (open_table c.loop-line.list) lines.count (numbered_ahead lines) c.in-Some.line.bytes.now (numbered_ahead c.next.new.self) step.0 c.if-is-word.ensures (open_table c.declare-line.new.list) told.0 told.1 r
-          (subst (λ n. Declarations (open_table c.declare-line.new.list) n (numbered_ahead c.next.new.self) r) step.3 h)),
+          (list_goes_on (open_table c.loop-line.list) lines.count (numbered_ahead lines) c.in-Some.line.bytes.now (numbered_ahead c.next.new.self) step.0 c.if-is_word.ensures (open_table c.declare_line.new.list) told.0 told.1 r
+          (subst (λ n. Declarations (open_table c.declare_line.new.list) n (numbered_ahead c.next.new.self) r) step.3 h)),
     )
 
-pub returns-then-is-word : goal.returns-then-is-word
-returns-then-is-word c =
+pub returns-then-is_word : goal.returns-then-is_word
+returns-then-is_word c =
     let step = c.in-Some.ensures.steps in
     let lines = c.loop-line.lines in
     let rest = numbered_ahead c.next.new.self in
-    let ends = list_ends (open_table c.loop-line.list) lines.count (numbered_ahead lines) c.in-Some.line.bytes.now rest step.0 c.if-is-word.ensures in
+    let ends = list_ends (open_table c.loop-line.list) lines.count (numbered_ahead lines) c.in-Some.line.bytes.now rest step.0 c.if-is_word.ensures in
     let same : section (open_table c.loop-line.list) rest (lines.count + 1) ≡ section (sealed_table c.seal.result) rest c.next.new.self.count = λ i. section (sym c.seal.ensures i) rest (sym step.3 i) in
     c.loop-line.invariant.2 _ (subst (λ s. Declarations (open_table c.loop-line.list) lines.count (numbered_ahead lines) (Ok s)) same ends)
 
-pub returns-in-err-declare-line : goal.returns-in-err-declare-line
-returns-in-err-declare-line c =
-    let p = err_from_is_err_and c.from-residual.result c.from-residual.ensures.1 in
+pub returns-in_err-declare_line : goal.returns-in_err-declare_line
+returns-in_err-declare_line c =
+    let p = err_from_is_err_and c.from_residual.result c.from_residual.ensures.1 in
     let step = c.in-Some.ensures.steps in
-    let told = c.in-err-declare-line.ensures in
-    let e = c.in-err-declare-line.field-0.0 in
+    let told = c.in_err-declare_line.ensures in
+    let e = c.in_err-declare_line.field-0.0 in
     let lines = c.loop-line.lines in
-    let refused = list_refused (open_table c.loop-line.list) lines.count (numbered_ahead lines) c.in-Some.line.bytes.now (numbered_ahead c.next.new.self) step.0 c.if-is-word.ensures e.fault told.1 in
+    let refused = list_refused (open_table c.loop-line.list) lines.count (numbered_ahead lines) c.in-Some.line.bytes.now (numbered_ahead c.next.new.self) step.0 c.if-is_word.ensures e.fault told.1 in
     let same : fault_at_line (lines.count + 1) e.fault ≡ e = ap (λ n. fault_at_line n e.fault) (sym (told.0 ∙ step.2)) in
     rw (p.1, p.2) (c.loop-line.invariant.2 _ (subst (λ (x : InputFault). Declarations (open_table c.loop-line.list) lines.count (numbered_ahead lines) (Err x)) same refused))
 
 pub returns : goal.returns
 returns c =
-    let step = c.in-default.ensures.steps in
+    let step = c.in_default.ensures.steps in
     let lines = c.loop-line.lines in
     let none = list_unended (open_table c.loop-line.list) lines.count (numbered_ahead lines) step.0 in
-    let same : malformed (lines.count + 1) ≡ c.malformed-line.result = ap (λ n. malformed (n + 1)) step.1 ∙ sym c.malformed-line.ensures in
+    let same : malformed (lines.count + 1) ≡ c.malformed_line.result = ap (λ n. malformed (n + 1)) step.1 ∙ sym c.malformed_line.ensures in
     c.loop-line.invariant.2 _ (subst (λ (x : InputFault). Declarations (open_table c.loop-line.list) lines.count (numbered_ahead lines) (Err x)) same none)

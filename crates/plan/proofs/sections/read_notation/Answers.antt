@@ -8,41 +8,41 @@ use Rattle.plan.specs.Sections.{Section, section, Sectioned, malformed, empty_ta
 use Rattle.plan.proofs.Sectioning.{ladder_read, declared_read, neither_read, none_read, notation_only}
 use Rattle.plan.proofs.sections.read_notation.Goals as goal
 
-pub returns-in-default : goal.returns-in-default
-returns-in-default c =
+pub returns-in_default : goal.returns-in_default
+returns-in_default c =
     let lines = c.args.lines.now in
-    let step = c.in-default.ensures.steps in
-    let same : malformed (lines.count + 1) ≡ c.malformed-line.result = ap (λ n. malformed (n + 1)) step.1 ∙ sym c.malformed-line.ensures in
+    let step = c.in_default.ensures.steps in
+    let same : malformed (lines.count + 1) ≡ c.malformed_line.result = ap (λ n. malformed (n + 1)) step.1 ∙ sym c.malformed_line.ensures in
     notation_only (numbered_ahead lines) lines.count _ (subst (λ (x : InputFault). Notation lines.count (numbered_ahead lines) (Err x)) same (none_read lines.count (numbered_ahead lines) step.0))
 
-pub returns-then-is-word : goal.returns-then-is-word
-returns-then-is-word c =
+pub returns-then-is_word : goal.returns-then-is_word
+returns-then-is_word c =
     let lines = c.args.lines.now in
     let step = c.in-Some.ensures.steps in
     let rest = numbered_ahead c.next.new.self in
     let same : section ladder_table rest (lines.count + 1) ≡ section ladder_table rest c.next.new.self.count = ap (section ladder_table rest) (sym step.3) in
-    notation_only (numbered_ahead lines) lines.count _ (subst (λ (s : Section). Notation lines.count (numbered_ahead lines) (Ok s)) same (ladder_read lines.count (numbered_ahead lines) c.in-Some.line.bytes.now rest step.0 c.if-is-word.ensures))
+    notation_only (numbered_ahead lines) lines.count _ (subst (λ (s : Section). Notation lines.count (numbered_ahead lines) (Ok s)) same (ladder_read lines.count (numbered_ahead lines) c.in-Some.line.bytes.now rest step.0 c.if-is_word.ensures))
 
-pub returns-in-err-read-declarations : goal.returns-in-err-read-declarations
-returns-in-err-read-declarations c =
-    let p = err_from_is_err_and c.from-residual.result c.from-residual.ensures.1 in
+pub returns-in_err-read_declarations : goal.returns-in_err-read_declarations
+returns-in_err-read_declarations c =
+    let p = err_from_is_err_and c.from_residual.result c.from_residual.ensures.1 in
     let lines = c.args.lines.now in
     let step = c.in-Some.ensures.steps in
     let rest = numbered_ahead c.next.new.self in
-    let r = Err c.in-err-read-declarations.field-0.0 in
-    rw (p.1, p.2) (notation_only (numbered_ahead lines) lines.count r (declared_read lines.count (numbered_ahead lines) c.in-Some.line.bytes.now rest step.0 c.if-is-word.ensures c.if-is-word-2.ensures r (subst (λ n. Declarations empty_table n rest r) step.3 c.in-err-read-declarations.ensures)))
+    let r = Err c.in_err-read_declarations.field-0.0 in
+    rw (p.1, p.2) (notation_only (numbered_ahead lines) lines.count r (declared_read lines.count (numbered_ahead lines) c.in-Some.line.bytes.now rest step.0 c.if-is_word.ensures c.if-is_word-2.ensures r (subst (λ n. Declarations empty_table n rest r) step.3 c.in_err-read_declarations.ensures)))
 
-pub returns-then-is-word-2 : goal.returns-then-is-word-2
-returns-then-is-word-2 c =
+pub returns-then-is_word-2 : goal.returns-then-is_word-2
+returns-then-is_word-2 c =
     let lines = c.args.lines.now in
     let step = c.in-Some.ensures.steps in
     let rest = numbered_ahead c.next.new.self in
-    let r : Sectioned = Ok (section (sealed_table c.in-ok-read-declarations.field-0) (numbered_ahead c.read-declarations.new.lines) c.read-declarations.new.lines.count) in
-    notation_only (numbered_ahead lines) lines.count r (declared_read lines.count (numbered_ahead lines) c.in-Some.line.bytes.now rest step.0 c.if-is-word.ensures c.if-is-word-2.ensures r (subst (λ n. Declarations empty_table n rest r) step.3 c.in-ok-read-declarations.ensures))
+    let r : Sectioned = Ok (section (sealed_table c.in_ok-read_declarations.field-0) (numbered_ahead c.read_declarations.new.lines) c.read_declarations.new.lines.count) in
+    notation_only (numbered_ahead lines) lines.count r (declared_read lines.count (numbered_ahead lines) c.in-Some.line.bytes.now rest step.0 c.if-is_word.ensures c.if-is_word-2.ensures r (subst (λ n. Declarations empty_table n rest r) step.3 c.in_ok-read_declarations.ensures))
 
 pub returns : goal.returns
 returns c =
     let lines = c.args.lines.now in
     let step = c.in-Some.ensures.steps in
-    let same : malformed (lines.count + 1) ≡ c.malformed-line-2.result = ap malformed (sym step.2) ∙ sym c.malformed-line-2.ensures in
-    notation_only (numbered_ahead lines) lines.count _ (subst (λ (x : InputFault). Notation lines.count (numbered_ahead lines) (Err x)) same (neither_read lines.count (numbered_ahead lines) c.in-Some.line.bytes.now (numbered_ahead c.next.new.self) step.0 c.if-is-word.ensures c.if-is-word-2.ensures))
+    let same : malformed (lines.count + 1) ≡ c.malformed_line-2.result = ap malformed (sym step.2) ∙ sym c.malformed_line-2.ensures in
+    notation_only (numbered_ahead lines) lines.count _ (subst (λ (x : InputFault). Notation lines.count (numbered_ahead lines) (Err x)) same (neither_read lines.count (numbered_ahead lines) c.in-Some.line.bytes.now (numbered_ahead c.next.new.self) step.0 c.if-is_word.ensures c.if-is_word-2.ensures))

@@ -6,6 +6,6 @@ returns c =
     let rack = c.args.rack.now in
     let used = c.args.fill.now.used in
     let root = c.args.root in
-    let (in_use, within) = c.if-not-has-root.ensures in
-    let sound = c.in-ok-check-nodes.ensures in
+    let (in_use, within) = c.if-not-has_root.ensures in
+    let sound = c.in_ok-check_nodes.ensures in
     record { answer = size_only rack used root in_use within sound; tree = rooted rack used root in_use within sound }

@@ -8,7 +8,7 @@ loop-at-preserved g c =
     let nodes = c.args.nodes.now in
     let lt : i < length nodes = omega arith in
     let room : i < length c.loop-at.values = omega arith in
-    stored_more (g.R.Rules.meaning c.args.rules.now) nodes c.args.values.now c.loop-at.values i c.value-at-value.result c.loop-at.invariant lt room (c.requires.sound i lt) c.value-at-value.ensures
+    stored_more (g.R.Rules.meaning c.args.rules.now) nodes c.args.values.now c.loop-at.values i c.value_at-value.result c.loop-at.invariant lt room (c.requires.sound i lt) c.value_at-value.ensures
 
 pub returns : goal.returns
 returns g c =

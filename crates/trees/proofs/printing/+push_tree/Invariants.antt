@@ -1,4 +1,4 @@
 use Rattle.trees.proofs.printing.+push_tree.Given as goal
 
-abbrev pub decreases-push-tree : goal.decreases-push-tree
-decreases-push-tree l = l.root
+abbrev pub decreases-push_tree : goal.decreases-push_tree
+decreases-push_tree l = l.root

@@ -14,9 +14,9 @@ pub returns : goal.returns
 unfolding ahead
 returns c =
     let input = c.args.self.now.input.now in
-    let end = c.line-end-end.ensures in
+    let end = c.line_end-end.ensures in
     let some : c.args.self.now.at < length input = omega (arith, c.if-start-input.false, c.args.self.now.within) in
-    let line = take (c.line-end-end.result - c.args.self.now.at) (drop c.args.self.now.at input) in
-    let e = next_line input c.args.self.now.at c.line-end-end.result end.forward end.within end.clear end.stops some
+    let line = take (c.line_end-end.result - c.args.self.now.at) (drop c.args.self.now.at input) in
+    let e = next_line input c.args.self.now.at c.line_end-end.result end.forward end.within end.clear end.stops some
     ∙ ap (λ n. line ∷ lines_of (drop n input)) (sym c.min-self.ensures) in
     record { steps = e; goes = firm ((tt, tt, omega (arith, ap length e))) (λ h. search rules) }

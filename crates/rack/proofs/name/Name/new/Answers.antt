@@ -15,4 +15,4 @@ named word front e =
     ∙ ap (λ (l : List ℕ). name (word ++ l)) (Post-is 0 (length word) (replicate 16 0) (omega arith) ∙ drop-replicate (length word) 16 0)
 
 pub returns : goal.returns
-returns c = (c.if-word-gt-MAX-NAME-BYTES.false, named c.args.word.now c.copy-from-slice.new.self c.copy-from-slice.ensures.after)
+returns c = (c.if-word-gt-MAX_NAME_BYTES.false, named c.args.word.now c.copy_from_slice.new.self c.copy_from_slice.ensures.after)
