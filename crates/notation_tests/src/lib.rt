@@ -24,8 +24,9 @@ mod tests {
         Ok(())
     }
 
-    fn accepted(rt: &impl Abort, list: &mut OpenList, line: &[u8]) -> Result<(), Fail> {
-        assert!(rt; list.declare(line).is_ok());
+    // Declares the line, which is lawful; `case` is told if it is refused.
+    fn accepted(rt: &impl Abort, list: &mut OpenList, line: &[u8], case: &str) -> Result<(), Fail> {
+        assert!(rt; list.declare(line).is_ok(), "{case}");
         Ok(())
     }
 
@@ -41,7 +42,7 @@ mod tests {
         refused(&rt, &mut list, b"00000 900 fy not", 10, 0)?;
         refused(&rt, &mut list, b"0 -900 fy not", 10, 0)?;
         refused(&rt, &mut list, b"x 900 fy not", 10, 0)?;
-        accepted(&rt, &mut list, b"0000 0900 fy not").note("leading zeros")
+        accepted(&rt, &mut list, b"0000 0900 fy not", "leading zeros")
     }
 
     #[test]
@@ -57,28 +58,39 @@ mod tests {
         refused(&rt, &mut list, b"0 900 fy 1a", 14, 4)?;
         refused(&rt, &mut list, b"0 900 fy a+", 14, 4)?;
         refused(&rt, &mut list, b"0 900 fy (", 14, 4)?;
-        accepted(&rt, &mut list, b"0 1 fy abcdefghijkl").note("priority 1, twelve bytes")?;
-        accepted(&rt, &mut list, b"63 1200 xfx +").note("priority 1200, function 63")
+        accepted(
+            &rt,
+            &mut list,
+            b"0 1 fy abcdefghijkl",
+            "priority 1, twelve bytes",
+        )?;
+        accepted(
+            &rt,
+            &mut list,
+            b"63 1200 xfx +",
+            "priority 1200, function 63",
+        )
     }
 
     #[test]
     fn rules_of_a_list(rt: HostRuntime) -> Result<(), Fail> {
         let mut list = OpenList::new();
-        accepted(&rt, &mut list, b"2 200 fy -")?;
+        accepted(&rt, &mut list, b"2 200 fy -", "a sign before")?;
         refused(&rt, &mut list, b"2 300 fy ~", 15, 1)?;
         refused(&rt, &mut list, b"3 300 fy -", 16, 4)?;
-        accepted(&rt, &mut list, b"36 500 yfx -").note("taken before, free after")?;
+        accepted(&rt, &mut list, b"36 500 yfx -", "taken before, free after")?;
         refused(&rt, &mut list, b"4 300 yf -", 16, 4)?;
         refused(&rt, &mut list, b"50 500 xfy =>", 17, 2)?;
         refused(&rt, &mut list, b"5 500 fy !", 17, 2)?;
-        refused(&rt, &mut list, b"32 200 yfx *", 17, 2).note("y left of f where one has it right")?;
-        accepted(&rt, &mut list, b"50 500 xfx =>")
+        // y left of f where one has it right
+        refused(&rt, &mut list, b"32 200 yfx *", 17, 2)?;
+        accepted(&rt, &mut list, b"50 500 xfx =>", "x on both sides")
     }
 
     #[test]
     fn the_first_of_two_faults(rt: HostRuntime) -> Result<(), Fail> {
         let mut list = OpenList::new();
-        accepted(&rt, &mut list, b"0 900 fy not")?;
+        accepted(&rt, &mut list, b"0 900 fy not", "a word before")?;
         refused(&rt, &mut list, b"0 1201 zz not", 11, 3)?;
         refused(&rt, &mut list, b"64 1201 fy not", 12, 1)?;
         refused(&rt, &mut list, b"1 1201 fy (", 13, 2)?;
@@ -92,8 +104,8 @@ mod tests {
         assert!(rt; empty.before(b"not").is_none());
         assert!(rt; empty.operator(0).is_none());
         let mut list = OpenList::new();
-        accepted(&rt, &mut list, b"2 200 fy -")?;
-        accepted(&rt, &mut list, b"36 500 yfx -")?;
+        accepted(&rt, &mut list, b"2 200 fy -", "a sign before")?;
+        accepted(&rt, &mut list, b"36 500 yfx -", "the same sign after")?;
         let sealed = list.seal();
         assert!(rt; sealed.before(b"-") == Some(2));
         assert!(rt; sealed.after(b"-") == Some(36));

@@ -8,43 +8,61 @@ mod tests {
     use std::test::Fail;
     use tokens::{Cutter, TokenKind, check_expression, needs_space};
 
-    // Runs the command on the input, and compares what it puts out.
+    // Runs the command on the input, and compares what it puts out; `case` is told if that differs.
     fn check_output(
         rt: &(impl Abort + AllocGlobal),
         input: &[u8],
         output: &[u8],
+        case: &str,
     ) -> Result<(), Fail> {
         let mut out = Vec::new(rt.alloc());
         translate(&mut out, input)?;
-        assert!(rt; out.as_slice() == output);
+        assert!(rt; out.as_slice() == output, "{case}");
         Ok(())
     }
 
     #[test]
     fn plans_at_their_ends(rt: HostRuntime) -> Result<(), Fail> {
-        check_output(&rt, b"ladder\nladder", b"#0 0\n")?;
-        check_output(&rt, b"ladder\nladder\n\n", b"!P40 3 0\n#0 0\n")?;
-        check_output(&rt, b"ladder\nladder\n1\ta", b"1\ta\n#1 0\n").note("no last line end")?;
-        check_output(&rt, b"ladder\nladder\n#", b"#0 0\n").note("a tail at once")?;
+        check_output(&rt, b"ladder\nladder", b"#0 0\n", "no lines")?;
+        check_output(
+            &rt,
+            b"ladder\nladder\n\n",
+            b"!P40 3 0\n#0 0\n",
+            "an empty line",
+        )?;
+        check_output(
+            &rt,
+            b"ladder\nladder\n1\ta",
+            b"1\ta\n#1 0\n",
+            "no last line end",
+        )?;
+        check_output(&rt, b"ladder\nladder\n#", b"#0 0\n", "a tail at once")?;
         check_output(
             &rt,
             b"declared\n0 900 fy not\nend\nladder\n201\t( a ) * b\n202\tc + \xff\n#9 9\n203\td\n",
             b"201\t(a)*b\n!R21 6 4\n#1 1\n",
+            "lines behind the tail",
         )
     }
 
     #[test]
     fn notations_that_are_refused(rt: HostRuntime) -> Result<(), Fail> {
-        check_output(&rt, b"", b"!D10 1 0\n").note("no notation")?;
-        check_output(&rt, b"ladder\n", b"!D10 2 0\n").note("one notation")?;
-        check_output(&rt, b"ladder\nLadder\n", b"!D10 2 0\n")?;
-        check_output(&rt, b"ladder \n", b"!D10 1 0\n").note("a space after the word")?;
-        check_output(&rt, b"declared\n", b"!D10 2 0\n").note("no end")?;
-        check_output(&rt, b"declared\nend\ndeclared\n1 2\n", b"!D10 4 0\n")?;
+        check_output(&rt, b"", b"!D10 1 0\n", "no notation")?;
+        check_output(&rt, b"ladder\n", b"!D10 2 0\n", "one notation")?;
+        check_output(&rt, b"ladder\nLadder\n", b"!D10 2 0\n", "a capital")?;
+        check_output(&rt, b"ladder \n", b"!D10 1 0\n", "a space after the word")?;
+        check_output(&rt, b"declared\n", b"!D10 2 0\n", "no end")?;
+        check_output(
+            &rt,
+            b"declared\nend\ndeclared\n1 2\n",
+            b"!D10 4 0\n",
+            "two fields",
+        )?;
         check_output(
             &rt,
             b"ladder\ndeclared\n32 400 yfx *\n33 400 xfy =>\nend\n1\ta\n",
             b"!D17 4 2\n",
+            "sides that clash",
         )
     }
 
@@ -54,15 +72,15 @@ mod tests {
         let word = cutter.next().ok_or("no word")?;
         assert!(rt; word.kind() == TokenKind::Word);
         assert!(rt; word.place() == 1);
-        assert!(rt; word.bytes() == b"ab");
+        assert!(rt; word.bytes() == b"ab".as_slice());
         let plus = cutter.next().ok_or("no symbol")?;
         assert!(rt; plus.kind() == TokenKind::Symbol);
         let open = cutter.next().ok_or("no bracket")?;
         assert!(rt; open.place() == 4);
         let number = cutter.next().ok_or("no number")?;
-        assert!(rt; number.bytes() == b"1");
+        assert!(rt; number.bytes() == b"1".as_slice());
         let at_most = cutter.next().ok_or("no last symbol")?;
-        assert!(rt; at_most.bytes() == b"<=");
+        assert!(rt; at_most.bytes() == b"<=".as_slice());
         assert!(rt; cutter.next().is_none());
         Ok(())
     }

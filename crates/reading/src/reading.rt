@@ -30,8 +30,8 @@ impl Reader {
     ) -> Result<Next, Fault>
         requires bound { next.at + length (waiting self.old) < 2 ^ 32 }
         requires room { length (waiting self.old) < 1024 }
-        ensures state { told (result_ok result) (waiting self.new) rack.new ≡ step mark (N.Notation.table notation.now) (stands next.due (site (waiting self.old) rack.old next.at)) (lexeme (placed token.entry)) }
-        ensures fault { IfErr result (λ f. f ≡ fault (fault_at (N.Notation.table notation.now) next.due (lexeme (placed token.entry))) (placed token.entry).place) }
+        ensures state { told (result_ok result) (waiting self.new) rack.new ≡ step mark (N.table notation.now) (stands next.due (site (waiting self.old) rack.old next.at)) (lexeme (placed token.entry)) }
+        ensures fault { IfErr result (λ f. f ≡ fault (fault_at (N.table notation.now) next.due (lexeme (placed token.entry))) (placed token.entry).place) }
         ensures kept { SameOutside next.at rack.old rack.new }
     {
         match self.advance(notation, rack, mark, next, token) {
@@ -52,7 +52,7 @@ impl Reader {
         text: &[u8],
         notation: &N,
     ) -> Result<usize, Fault>
-        ensures { OnlyReading (N.Notation.table notation.now) text.now rack.old fill.old.used result rack.new fill.new.used }
+        ensures { OnlyReading (N.table notation.now) text.now rack.old fill.old.used result rack.new fill.new.used }
     {
         let mark = fill.used;
         let mut loan = FillLoan {

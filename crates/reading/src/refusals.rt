@@ -9,7 +9,7 @@ use tokens::{FaultKind, Token};
 
 // Whether the token is a symbol that the notation lists in neither position.
 fn is_unlisted_symbol<N: Notation>(notation: &N, token: Token<'_>) -> bool
-    ensures { result ≡ is_unlisted_symbol (N.Notation.table notation.now) (placed token.entry).kind (placed token.entry).bytes }
+    ensures { result ≡ is_unlisted_symbol (N.table notation.now) (placed token.entry).kind (placed token.entry).bytes }
 {
     match token {
         Token::Symbol { bytes, .. } => notation.before(bytes).is_none()
@@ -20,7 +20,7 @@ fn is_unlisted_symbol<N: Notation>(notation: &N, token: Token<'_>) -> bool
 
 // The fault of a token that fails where an operator is due.
 fn fault_for_operator<N: Notation>(notation: &N, token: Token<'_>) -> FaultKind
-    ensures { result ≡ fault_for_operator (N.Notation.table notation.now) (placed token.entry).kind (placed token.entry).bytes }
+    ensures { result ≡ fault_for_operator (N.table notation.now) (placed token.entry).kind (placed token.entry).bytes }
 {
     match token {
         Token::Word { bytes, .. } | Token::Symbol { bytes, .. } => match notation.after(bytes) {
@@ -34,7 +34,7 @@ fn fault_for_operator<N: Notation>(notation: &N, token: Token<'_>) -> FaultKind
 
 // The fault of a token that fails where this is due.
 pub(crate) fn fault_at<N: Notation>(notation: &N, due: Due, token: Token<'_>) -> FaultKind
-    ensures { result ≡ fault_at (N.Notation.table notation.now) due (lexeme (placed token.entry)) }
+    ensures { result ≡ fault_at (N.table notation.now) due (lexeme (placed token.entry)) }
 {
     if is_unlisted_symbol(notation, token) {
         return FaultKind::UnlistedSymbol;

@@ -14,7 +14,7 @@ use rack::Node;
 
 // The operator of a function that waits. One that has none, which none that waits is, counts as this.
 fn waiting_operator<N: Notation>(notation: &N, function: u8) -> Operator<'_>
-    ensures { meant result ≡ operator_in (N.Notation.table notation.now) function }
+    ensures { meant result ≡ operator_in (N.table notation.now) function }
 {
     match notation.operator(function) {
         Some(operator) => operator,
@@ -38,7 +38,7 @@ impl Reader {
         right: Operator<'_>,
     ) -> Option<usize>
         requires { at + length (waiting self.old) < 2 ^ 32 }
-        ensures state { sited result (waiting self.new) rack.new ≡ settled mark (N.Notation.table notation.now) (meant right.entry) (waiting self.old) rack.old at }
+        ensures state { sited result (waiting self.new) rack.new ≡ settled mark (N.table notation.now) (meant right.entry) (waiting self.old) rack.old at }
         ensures kept { SameOutside at rack.old rack.new }
     {
         let mut at = at;

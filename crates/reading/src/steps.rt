@@ -20,8 +20,8 @@ use tokens::Token;
 // Puts the node of the word if it is a name, which one that is listed before is not; the answer is the next free place.
 fn put_name<N: Notation>(notation: &N, rack: &mut [Node], at: usize, word: &[u8]) -> Option<usize>
     requires bound { at < 2 ^ 32 }
-    requires unlisted { listed (N.Notation.table notation.now) Before word.now ≡ None }
-    ensures answer { MatchOption result (is_name (N.Notation.table notation.now) word.now ≡ false) (λ next. (is_name (N.Notation.table notation.now) word.now ≡ true) × (next ≡ at + 1) × (rack.new ≡ stored rack.old at (name_node word.now))) }
+    requires unlisted { listed (N.table notation.now) Before word.now ≡ None }
+    ensures answer { MatchOption result (is_name (N.table notation.now) word.now ≡ false) (λ next. (is_name (N.table notation.now) word.now ≡ true) × (next ≡ at + 1) × (rack.new ≡ stored rack.old at (name_node word.now))) }
     ensures kept { SameOutside at rack.old rack.new }
 {
     if notation.after(word).is_some() {
@@ -58,7 +58,7 @@ impl Reader {
     ) -> Option<Next>
         requires bound { at < 2 ^ 32 }
         requires room { length (waiting self.old) < 1024 }
-        ensures state { told result (waiting self.new) rack.new ≡ operand_step mark (N.Notation.table notation.now) (placed token.entry).kind (placed token.entry).bytes (waiting self.old) rack.old at }
+        ensures state { told result (waiting self.new) rack.new ≡ operand_step mark (N.table notation.now) (placed token.entry).kind (placed token.entry).bytes (waiting self.old) rack.old at }
         ensures kept { SameOutside at rack.old rack.new }
     {
         match token {
@@ -92,7 +92,7 @@ impl Reader {
     ) -> Option<Next>
         requires bound { at + length (waiting self.old) < 2 ^ 32 }
         requires room { length (waiting self.old) < 1024 }
-        ensures state { told result (waiting self.new) rack.new ≡ standing mark (fixity_in (N.Notation.table notation.now) function) function (settled mark (N.Notation.table notation.now) (operator_in (N.Notation.table notation.now) function) (waiting self.old) rack.old at) }
+        ensures state { told result (waiting self.new) rack.new ≡ standing mark (fixity_in (N.table notation.now) function) function (settled mark (N.table notation.now) (operator_in (N.table notation.now) function) (waiting self.old) rack.old at) }
         ensures kept { SameOutside at rack.old rack.new }
     {
         let operator = notation.operator(function)?;
@@ -139,7 +139,7 @@ impl Reader {
     ) -> Option<Next>
         requires bound { at + length (waiting self.old) < 2 ^ 32 }
         requires room { length (waiting self.old) < 1024 }
-        ensures state { told result (waiting self.new) rack.new ≡ operator_step mark (N.Notation.table notation.now) (placed token.entry).kind (placed token.entry).bytes (waiting self.old) rack.old at }
+        ensures state { told result (waiting self.new) rack.new ≡ operator_step mark (N.table notation.now) (placed token.entry).kind (placed token.entry).bytes (waiting self.old) rack.old at }
         ensures kept { SameOutside at rack.old rack.new }
     {
         match token {
@@ -163,7 +163,7 @@ impl Reader {
     ) -> Option<Next>
         requires bound { next.at + length (waiting self.old) < 2 ^ 32 }
         requires room { length (waiting self.old) < 1024 }
-        ensures state { told result (waiting self.new) rack.new ≡ step mark (N.Notation.table notation.now) (stands next.due (site (waiting self.old) rack.old next.at)) (lexeme (placed token.entry)) }
+        ensures state { told result (waiting self.new) rack.new ≡ step mark (N.table notation.now) (stands next.due (site (waiting self.old) rack.old next.at)) (lexeme (placed token.entry)) }
         ensures kept { SameOutside next.at rack.old rack.new }
     {
         match next.due {

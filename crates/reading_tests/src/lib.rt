@@ -65,7 +65,7 @@ mod tests {
         same && a.size == b.size
     }
 
-    // The text reads as a tree; the nodes in use are then these.
+    // The text reads as a tree; the nodes in use are then these. `case` is told if they are not.
     fn check_tree(
         rt: &impl Abort,
         reader: &mut Reader,
@@ -73,19 +73,23 @@ mod tests {
         used: usize,
         text: &[u8],
         nodes: &[Node],
+        case: &str,
     ) -> Result<(), Fail> {
         let Left { answer, rack, used } = read(reader, rack, used, text);
         let Ok(root) = answer else {
             return Err(Fail::new("refused"));
         };
-        assert!(rt; used == nodes.len() && used > root && used - root == 1);
+        assert!(rt;
+            used == nodes.len() && used > root && used - root == 1,
+            "{case}"
+        );
         for (node, other) in rack.iter().zip(nodes) {
-            assert!(rt; same_node(*node, *other));
+            assert!(rt; same_node(*node, *other), "{case}");
         }
         Ok(())
     }
 
-    // The text is refused with the number at the place, and the fill is put back.
+    // The text is refused with the number at the place, and the fill is put back. `case` is told if not.
     fn check_fault(
         rt: &impl Abort,
         reader: &mut Reader,
@@ -93,15 +97,16 @@ mod tests {
         text: &[u8],
         number: u8,
         place: usize,
+        case: &str,
     ) -> Result<(), Fail> {
         let left = read(reader, [BLANK; ROOM], used, text);
         let Err(fault) = left.answer else {
             return Err(Fail::new("accepted"));
         };
-        assert_eq!(rt; fault.kind.letter(), b'R');
-        assert_eq!(rt; fault.kind.number(), number);
-        assert_eq!(rt; fault.place, place);
-        assert_eq!(rt; left.used, used);
+        assert_eq!(rt; fault.kind.letter(), b'R', "{case}");
+        assert_eq!(rt; fault.kind.number(), number, "{case}");
+        assert_eq!(rt; fault.place, place, "{case}");
+        assert_eq!(rt; left.used, used, "{case}");
         Ok(())
     }
 
@@ -125,13 +130,53 @@ mod tests {
     fn refusals(rt: HostRuntime) -> Result<(), Fail> {
         let mut reader = Reader::new(rt.alloc())?;
         for (text, number, place) in REFUSED {
-            check_fault(&rt, &mut reader, 2, text, number, place)?;
-            check_fault(&rt, &mut reader, ROOM, text, number, place).note("in a full rack")?;
+            check_fault(
+                &rt,
+                &mut reader,
+                2,
+                text,
+                number,
+                place,
+                "behind nodes in use",
+            )?;
+            check_fault(
+                &rt,
+                &mut reader,
+                ROOM,
+                text,
+                number,
+                place,
+                "in a full rack",
+            )?;
         }
         let brackets = vec![in rt.alloc(); b')'; 4097]?;
-        check_fault(&rt, &mut reader, 2, brackets.as_slice(), 20, 4096)?;
-        check_fault(&rt, &mut reader, 2, &brackets.as_slice()[0..1025], 22, 1024)?;
-        check_fault(&rt, &mut reader, 6, b"a+b", 30, 6).note("three nodes in two places")
+        check_fault(
+            &rt,
+            &mut reader,
+            2,
+            brackets.as_slice(),
+            20,
+            4096,
+            "too many bytes",
+        )?;
+        check_fault(
+            &rt,
+            &mut reader,
+            2,
+            &brackets.as_slice()[0..1025],
+            22,
+            1024,
+            "too many tokens",
+        )?;
+        check_fault(
+            &rt,
+            &mut reader,
+            6,
+            b"a+b",
+            30,
+            6,
+            "three nodes in two places",
+        )
     }
 
     #[test]
@@ -139,11 +184,33 @@ mod tests {
         let (a, b, c) = (name(b"a"), name(b"b"), name(b"c"));
         let mut reader = Reader::new(rt.alloc())?;
         let nodes = [a, b, c, function(35, 3), function(0, 4), function(32, 6)];
-        check_tree(&rt, &mut reader, [BLANK; ROOM], 0, b"a*not b+c", &nodes)?;
+        check_tree(
+            &rt,
+            &mut reader,
+            [BLANK; ROOM],
+            0,
+            b"a*not b+c",
+            &nodes,
+            "a prefix operator",
+        )?;
         let nodes = [a, b, function(35, 3), function(1, 4), c, function(32, 6)];
-        check_tree(&rt, &mut reader, [BLANK; ROOM], 0, b"a+b later*c", &nodes)?;
+        check_tree(
+            &rt,
+            &mut reader,
+            [BLANK; ROOM],
+            0,
+            b"a+b later*c",
+            &nodes,
+            "a postfix operator",
+        )?;
         let nodes = [c, c, c, c, a, b, function(2, 2), function(46, 4)];
-        check_tree(&rt, &mut reader, [c; ROOM], 4, b"((a)^(-b))", &nodes).note(
+        check_tree(
+            &rt,
+            &mut reader,
+            [c; ROOM],
+            4,
+            b"((a)^(-b))",
+            &nodes,
             "behind nodes in use",
         )
     }

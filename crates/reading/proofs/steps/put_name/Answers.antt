@@ -12,29 +12,29 @@ use Rattle.reading.proofs.steps.put_name.Goals as goal
 named_node : (rack : List Node) (n : ℕ) (w : List ℕ) (name : Name) (after : List Node) → name ≡ name_of w → after ≡ stored rack n (record { item = I.Name name; size = 1 }) → after ≡ stored rack n (name_node w)
 named_node rack n w name after e h = h ∙ ap (λ (m : Name). stored rack n (record { item = I.Name m; size = 1 })) e
 
-pub returns-then-is-some : goal.returns-then-is-some
-returns-then-is-some g c =
+pub returns-then-is_some : goal.returns-then-is_some
+returns-then-is_some g c =
     record {
-      answer = no_name_listed (g.N.Notation.table c.args.notation.now) c.args.word.now (ap is_some (sym c.after.ensures) ∙ sym c.if-is-some.ensures);
+      answer = no_name_listed (g.N.Notation.table c.args.notation.now) c.args.word.now (ap is_some (sym c.after.ensures) ∙ sym c.if-is_some.ensures);
       kept = nothing_changed c.args.at c.args.rack.now;
     }
 
-pub returns-in-err-name : goal.returns-in-err-name
-returns-in-err-name g c =
-    rw c.from-residual.ensures (record {
-      answer = no_name_long (g.N.Notation.table c.args.notation.now) c.args.word.now c.in-err-name.ensures;
+pub returns-in_err-name : goal.returns-in_err-name
+returns-in_err-name g c =
+    rw c.from_residual.ensures (record {
+      answer = no_name_long (g.N.Notation.table c.args.notation.now) c.args.word.now c.in_err-name.ensures;
       kept = nothing_changed c.args.at c.args.rack.now;
     })
 
 pub returns : goal.returns
 returns g c =
     let word : List ℕ = c.args.word.now in
-    let named = c.in-ok-name.ensures in
+    let named = c.in_ok-name.ensures in
     record {
       answer = (
-        a_name (g.N.Notation.table c.args.notation.now) word c.requires.unlisted (ap is_some (sym c.after.ensures) ∙ sym c.if-is-some.ensures) named.0,
+        a_name (g.N.Notation.table c.args.notation.now) word c.requires.unlisted (ap is_some (sym c.after.ensures) ∙ sym c.if-is_some.ensures) named.0,
         refl,
-        named_node c.args.rack.now c.args.at word c.in-ok-name.name c.put.new.rack named.1 c.put.ensures.nodes,
+        named_node c.args.rack.now c.args.at word c.in_ok-name.name c.put.new.rack named.1 c.put.ensures.nodes,
       );
       kept = c.put.ensures.kept;
     }

@@ -4,4 +4,4 @@ use Rattle.reading.proofs.reader.Reader.new.Goals as goal
 
 pub returns : goal.returns
 unfolding waiting
-returns c = ap reverse c.in-ok-pending.ensures.items
+returns c = ap reverse c.in_ok-pending.ensures.items

@@ -9,8 +9,8 @@ use Rattle.reading.proofs.reader.Reader.settle.Goals as goal
 pub loop-function-preserved : goal.loop-function-preserved
 loop-function-preserved g c =
     let k = waiting c.loop-function.self in
-    let top = sym c.last-function.ensures ∙ c.in-Some.is in
-    let v = c.in-Left.ensures.answer ∙ ap (λ (u : Op). taker u (meant c.args.right)) c.waiting-operator.ensures in
+    let top = sym c.last_function.ensures ∙ c.in-Some.is in
+    let v = c.in-Left.ensures.answer ∙ ap (λ (u : Op). taker u (meant c.args.right)) c.waiting_operator.ensures in
     let on = settled_left c.args.mark (g.N.Notation.table c.args.notation.now) (meant c.args.right) k c.in-Some.function c.loop-function.rack c.loop-function.at top v in
     let less = one_less k c.in-Some.function top in
     let fewer = ap length c.complete-at.ensures.stack in (
@@ -22,18 +22,18 @@ loop-function-preserved g c =
 
 pub returns-in-Right : goal.returns-in-Right
 returns-in-Right g c =
-    let v = c.in-Right.ensures.answer ∙ ap (λ (u : Op). taker u (meant c.args.right)) c.waiting-operator.ensures in
+    let v = c.in-Right.ensures.answer ∙ ap (λ (u : Op). taker u (meant c.args.right)) c.waiting_operator.ensures in
     record {
-      state = sym (settled_right c.args.mark (g.N.Notation.table c.args.notation.now) (meant c.args.right) (waiting c.loop-function.self) c.in-Some.function c.loop-function.rack c.loop-function.at (sym c.last-function.ensures ∙ c.in-Some.is) v)
+      state = sym (settled_right c.args.mark (g.N.Notation.table c.args.notation.now) (meant c.args.right) (waiting c.loop-function.self) c.in-Some.function c.loop-function.rack c.loop-function.at (sym c.last_function.ensures ∙ c.in-Some.is) v)
           ∙ c.loop-function.invariant.0;
       kept = c.loop-function.invariant.3;
     }
 
 pub returns-in-Neither : goal.returns-in-Neither
 returns-in-Neither g c =
-    let v = c.in-Neither.ensures.answer ∙ ap (λ (u : Op). taker u (meant c.args.right)) c.waiting-operator.ensures in
+    let v = c.in-Neither.ensures.answer ∙ ap (λ (u : Op). taker u (meant c.args.right)) c.waiting_operator.ensures in
     record {
-      state = sym (settled_neither c.args.mark (g.N.Notation.table c.args.notation.now) (meant c.args.right) (waiting c.loop-function.self) c.in-Some.function c.loop-function.rack c.loop-function.at (sym c.last-function.ensures ∙ c.in-Some.is) v)
+      state = sym (settled_neither c.args.mark (g.N.Notation.table c.args.notation.now) (meant c.args.right) (waiting c.loop-function.self) c.in-Some.function c.loop-function.rack c.loop-function.at (sym c.last_function.ensures ∙ c.in-Some.is) v)
           ∙ c.loop-function.invariant.0;
       kept = c.loop-function.invariant.3;
     }
@@ -41,7 +41,7 @@ returns-in-Neither g c =
 pub returns : goal.returns
 returns g c =
     record {
-      state = sym (settled_end c.args.mark (g.N.Notation.table c.args.notation.now) (meant c.args.right) (waiting c.loop-function.self) c.loop-function.rack c.loop-function.at (sym c.last-function.ensures ∙ c.in-default.is))
+      state = sym (settled_end c.args.mark (g.N.Notation.table c.args.notation.now) (meant c.args.right) (waiting c.loop-function.self) c.loop-function.rack c.loop-function.at (sym c.last_function.ensures ∙ c.in_default.is))
           ∙ c.loop-function.invariant.0;
       kept = c.loop-function.invariant.3;
     }

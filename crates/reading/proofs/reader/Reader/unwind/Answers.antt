@@ -7,7 +7,7 @@ use Rattle.reading.proofs.reader.Reader.unwind.Goals as goal
 pub loop-function-preserved : goal.loop-function-preserved
 loop-function-preserved c =
     let k = waiting c.loop-function.self in
-    let top = sym c.last-function.ensures ∙ c.in-Some.is in
+    let top = sym c.last_function.ensures ∙ c.in-Some.is in
     let on = unwound_more c.args.mark k c.in-Some.function c.loop-function.rack c.loop-function.at top in
     let less = one_less k c.in-Some.function top in
     let fewer = ap length c.complete-at.ensures.stack in (
@@ -20,6 +20,6 @@ loop-function-preserved c =
 pub returns : goal.returns
 returns c =
     record {
-      state = sym (unwound_end c.args.mark (waiting c.loop-function.self) c.loop-function.rack c.loop-function.at (sym c.last-function.ensures ∙ c.in-default.is)) ∙ c.loop-function.invariant.0;
+      state = sym (unwound_end c.args.mark (waiting c.loop-function.self) c.loop-function.rack c.loop-function.at (sym c.last_function.ensures ∙ c.in_default.is)) ∙ c.loop-function.invariant.0;
       kept = c.loop-function.invariant.3;
     }

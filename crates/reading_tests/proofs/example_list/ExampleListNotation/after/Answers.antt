@@ -3,4 +3,4 @@ use Rattle.reading_tests.proofs.example_list.ExampleListNotation.after.Goals as 
 
 pub returns : goal.returns
 unfolding listed
-returns c = c.function-after.ensures
+returns c = c.function_after.ensures

@@ -3,4 +3,4 @@ use Rattle.reading_tests.proofs.example_list.ExampleListNotation.before.Goals as
 
 pub returns : goal.returns
 unfolding listed
-returns c = c.function-before.ensures
+returns c = c.function_before.ensures
