@@ -1,6 +1,6 @@
 -- What the machine's states say of a text: the verdict that it comes to holds.
 use Rattle.std.proofs.Common.{◌≡◌, ℕ, List, [], ◌∷◌, ◌++◌, map, Some, None, Option, sym, refl, ap, ◌∙◌, subst, append_assoc, append-nil, arith}
-use Rattle.std.specs.List.{AllByRecursion as All}
+use Rattle.std.specs.List.{AllByRecursion}
 use Rattle.std.proofs.lemmas.List.{map-append, map_push}
 use Rattle.tokens.specs.Limits.{Lawful as LawfulByte}
 use Rattle.tokens.specs.Spacing.{lexemes_of}
@@ -18,14 +18,14 @@ use Rattle.grammar.proofs.Completeness.{finds_all}
 use Rattle.grammar.proofs.Soundness.{finds_only}
 use Rattle.grammar.proofs.Viability.{run-append, refused_is_dead, unrefused_is_live}
 
-all_front : (P : Lexeme → Type 0) (xs ys : List Lexeme) → All P (xs ++ ys) → All P xs
+all_front : (P : Lexeme → Type 0) (xs ys : List Lexeme) → AllByRecursion P (xs ++ ys) → AllByRecursion P xs
 all_front P [] ys h = tt
 all_front P (x ∷ xs) ys h = (h.0, all_front P xs ys h.1)
 
 module _ (t : Table) (lawful : LawfulTable t) (text : List ℕ) where
-  front_formed : (front rest : List Placed) → tokens_of text ≡ front ++ rest → All Formed (map lexeme front)
+  front_formed : (front rest : List Placed) → tokens_of text ≡ front ++ rest → AllByRecursion Formed (map lexeme front)
   front_formed front rest split =
-      all_front Formed (map lexeme front) (map lexeme rest) (subst (All Formed) (ap (map lexeme) split ∙ map-append lexeme front rest) (formed text))
+      all_front Formed (map lexeme front) (map lexeme rest) (subst (AllByRecursion Formed) (ap (map lexeme) split ∙ map-append lexeme front rest) (formed text))
 
   pub front_live : (front rest : List Placed) → tokens_of text ≡ front ++ rest → (run t start (map lexeme front) ≡ refused → ⊥) → Live t (map lexeme front)
   front_live front rest split n = unrefused_is_live t lawful (map lexeme front) (front_formed front rest split) n
@@ -46,7 +46,7 @@ module _ (t : Table) (lawful : LawfulTable t) (text : List ℕ) where
   fails_at_end_lem n e = record { live = front_live (tokens_of text) [] (sym (append-nil (tokens_of text))) n; unread = unread e }
 
   -- it reads as the tree that the machine has at the end
-  pub found_reads : All LawfulByte text → (b : Bracketed) → accepted t (lexemes_of text) ≡ Some b → Reads t text (erase b)
+  pub found_reads : AllByRecursion LawfulByte text → (b : Bracketed) → accepted t (lexemes_of text) ≡ Some b → Reads t text (erase b)
   found_reads bytes b e =
       let (law, same) = finds_only t (lexemes_of text) (formed text) b e in record { bytes = bytes; reading = record { bracketed = b; lawful = law; tokens = same; erased = refl } }
 
@@ -69,7 +69,7 @@ module _ (t : Table) where
   abbrev pub judged : List ℕ → Verdict
   judged text = judged_from start [] (tokens_of text)
 
-module _ (t : Table) (lawful : LawfulTable t) (text : List ℕ) (bytes : All LawfulByte text) where
+module _ (t : Table) (lawful : LawfulTable t) (text : List ℕ) (bytes : AllByRecursion LawfulByte text) where
   end_holds : (o : Option Bracketed) → accepted t (lexemes_of text) ≡ o → (run t start (lexemes_of text) ≡ refused → ⊥) → Holds t text (judged_end o)
   end_holds None e n = fails_at_end_lem t lawful text n e
   end_holds (Some b) e n = found_reads t lawful text bytes b e

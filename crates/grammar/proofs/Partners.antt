@@ -1,6 +1,6 @@
 -- A bracket fault is told where a bracket has no partner.
 use Rattle.std.proofs.Common.{◌≡◌, ℕ, ◌+◌, ◌-◌, ◌<◌, Bool, true, false, List, [], ◌∷◌, ◌++◌, map, Some, None, Option, sym, refl, ap, ◌∙◌, subst, append_assoc, arith}
-use Rattle.std.specs.List.{AllByRecursion as All}
+use Rattle.std.specs.List.{AllByRecursion}
 use Rattle.std.proofs.lemmas.List.{map_push}
 use Rattle.tokens.specs.declared.token.TokenKind.{TokenKind}
 use Rattle.tokens.specs.declared.token.TokenKind.TheVariants.{Word, Symbol, Open, Close}
@@ -139,7 +139,7 @@ module _ (t : Table) (lawful : LawfulTable t) (text : List ℕ) where
       close_unmatched t (run t start (map lexeme front)) (due_after t (map lexeme front)) (open_after (map lexeme front)) (lexeme x) (λ e. refused_is_dead t lawful (map lexeme front) e h.live)
       (machine_tells_due t lawful (map lexeme front)) (run_opens t (map lexeme front) start 0 refl) op kind (dead_refused front x h)
 
-  end_at : All LawfulByte text → FailsAtEnd t text → due_after t (lexemes_of text) ≡ Operator → 0 < open_after (lexemes_of text)
+  end_at : AllByRecursion LawfulByte text → FailsAtEnd t text → due_after t (lexemes_of text) ≡ Operator → 0 < open_after (lexemes_of text)
   end_at bytes h op =
       end_unmatched t (run t start (lexemes_of text)) (due_after t (lexemes_of text)) (open_after (lexemes_of text)) (λ e. refused_is_dead t lawful (lexemes_of text) e h.live)
       (machine_tells_due t lawful (lexemes_of text)) (run_opens t (lexemes_of text) start 0 refl) op (none_or (accepted t (lexemes_of text)) (λ b e. h.unread (erase b) (found_reads t lawful text bytes b e)))

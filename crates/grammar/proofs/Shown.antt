@@ -1,6 +1,6 @@
 -- The worked examples, by one test that computes the machine's verdicts.
 use Rattle.std.proofs.Common.{◌≡◌, ℕ, Bool, true, false, ◌&&◌, eqb, List, Ok, Err, Result, sym, refl, ap, ◌∙◌, subst}
-use Rattle.std.specs.List.{AllByRecursion as All}
+use Rattle.std.specs.List.{AllByRecursion}
 use Rattle.std.specs.Str.{bytes_eq}
 use Rattle.std.proofs.ByRecursion.{All-weaker}
 use Rattle.std.proofs.lemmas.Slice.Eq.{bytes_eq-Decides}
@@ -42,7 +42,7 @@ is_lawful C.Unlawful = false
 abbrev are_lawful : List ℕ → Bool
 are_lawful text = every (λ b. is_lawful (class_of b)) text
 
-lawful_bytes : (text : List ℕ) → are_lawful text ≡ true → All LawfulByte text
+lawful_bytes : (text : List ℕ) → are_lawful text ≡ true → AllByRecursion LawfulByte text
 lawful_bytes text e =
     All-weaker (λ b. is_lawful (class_of b) ≡ true) LawfulByte (λ b h unlawful. false≢true (sym (ap is_lawful unlawful) ∙ h)) text (every_passes (λ b. is_lawful (class_of b)) text e)
 

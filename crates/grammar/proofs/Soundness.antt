@@ -1,6 +1,6 @@
 -- What the machine finds is lawful and has the tokens that it was run on.
 use Rattle.std.proofs.Common.{◌≡◌, ℕ, max, Bool, true, false, not, ◌&&◌, leb, List, [], ◌∷◌, length, is_some, Some, None, Option, sym, refl, ap, ◌∙◌, subst, append-nil, arith}
-use Rattle.std.specs.List.{AllByRecursion as All}
+use Rattle.std.specs.List.{AllByRecursion}
 use Rattle.std.proofs.lemmas.Bool.{false≢true, and_parts, leb-true}
 use Rattle.tokens.specs.declared.token.TokenKind.{TokenKind}
 use Rattle.tokens.specs.declared.token.TokenKind.TheVariants.{Word, Symbol, Open, Close}
@@ -147,7 +147,7 @@ module _ (t : Table) where
     step_held rest (operator_due k b) x h held = operator_held rest x.kind x.bytes k b h held
     step_held rest refused x h held = tt
 
-    run_held : (xs : List Lexeme) (st : State) → All Formed xs → Held xs st → Held [] (run t st xs)
+    run_held : (xs : List Lexeme) (st : State) → AllByRecursion Formed xs → Held xs st → Held [] (run t st xs)
     run_held [] st h held = held
     run_held (x ∷ xs) st h held = run_held xs (step t st x) h.1 (step_held xs st x h.0 held)
 
@@ -156,7 +156,7 @@ module _ (t : Table) where
     outcome_held (operator_due k a) b (w, l, m, r, d) e = ended_held k a b w l m d e
     outcome_held refused b held e = let z : ◌≡◌ {A = ℕ} 0 1 = cc in absurd (omega arith)
 
-  pub finds_only : (xs : List Lexeme) → All Formed xs → (b : Bracketed) → accepted t xs ≡ Some b → Lawful t b × (lexemes t b ≡ xs)
+  pub finds_only : (xs : List Lexeme) → AllByRecursion Formed xs → (b : Bracketed) → accepted t xs ≡ Some b → Lawful t b × (lexemes t b ≡ xs)
   finds_only xs h b e =
       let (l, d) = outcome_held xs (run t start xs) b (run_held xs xs start h (tt, refl)) e in (l, sym (append-nil (lexemes t b)) ∙ sym (followed_is t b []) ∙ d)
 

@@ -1,6 +1,6 @@
 -- Facts of a lawful table: what its operators are, where they are listed, and that a long word is a name.
 use Rattle.std.proofs.Common.{◌≡◌, ℕ, zero, suc, ◌≤◌, List, length, replicate, Some, None, Option, sym, refl, ap, ◌∙◌, subst, ⊎_elim, arith}
-use Rattle.std.specs.List.{AllByRecursion as All}
+use Rattle.std.specs.List.{AllByRecursion}
 use Rattle.std.specs.Option.{option_map}
 use Rattle.tokens.specs.declared.token.TokenKind.{TokenKind}
 use Rattle.tokens.specs.declared.token.TokenKind.TheVariants as K
@@ -59,7 +59,7 @@ apart X Y p q hp hq h a b = omega arith
 apart Y X p q hp hq h a b = omega arith
 apart Y Y p q hp hq h a b = h (omega arith) refl refl
 
-letters : (n : ℕ) → All (λ b. kind_of b ≡ Some K.Word) (replicate n 97)
+letters : (n : ℕ) → AllByRecursion (λ b. kind_of b ≡ Some K.Word) (replicate n 97)
 unfolding kind_of
 letters zero = tt
 letters (suc n) = (refl, letters n)

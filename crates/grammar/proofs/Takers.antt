@@ -1,6 +1,6 @@
 -- The decision between two neighbours: by limits it is as by priorities and types.
 use Rattle.std.proofs.Common.{◌≡◌, ℕ, ◌<◌, ◌≤◌, Bool, true, false, leb, ◌⊎◌, sym, refl, ap, ◌∙◌, inl, inr, ⊎_elim, arith}
-use Rattle.std.specs.List.{AllByRecursion as All}
+use Rattle.std.specs.List.{AllByRecursion}
 use Rattle.std.proofs.ByRecursion.{All-weaker}
 use Rattle.std.proofs.lemmas.Bool.{leb-true, leb-false, le-leb, lt-leb, cases_lt}
 use Rattle.notation.specs.declared.form.Side.{Side}
@@ -99,14 +99,14 @@ neighbours_decided t lawful f g u o d e =
 
 -- In a lawful tree the operators down a side are within the weight there.
 module _ (t : Table) where
-  down_left_lem : (b : Bracketed) (n : ℕ) → left_weight t b ≤ n → All (λ g. (operator_in t g).priority ≤ n) (down_left b)
+  down_left_lem : (b : Bracketed) (n : ℕ) → left_weight t b ≤ n → AllByRecursion (λ g. (operator_in t g).priority ≤ n) (down_left b)
   down_left_lem (named w) n h = tt
   down_left_lem (pair b) n h = tt
   down_left_lem (prefixed f b) n h = tt
   down_left_lem (postfixed f a) n h = (omega arith, down_left_lem a n (omega arith))
   down_left_lem (infixed f a b) n h = (omega arith, down_left_lem a n (omega arith))
 
-  down_right_lem : (b : Bracketed) (n : ℕ) → right_weight t b ≤ n → All (λ g. (operator_in t g).priority ≤ n) (down_right b)
+  down_right_lem : (b : Bracketed) (n : ℕ) → right_weight t b ≤ n → AllByRecursion (λ g. (operator_in t g).priority ≤ n) (down_right b)
   down_right_lem (named w) n h = tt
   down_right_lem (pair b) n h = tt
   down_right_lem (prefixed f b) n h = (omega arith, down_right_lem b n (omega arith))

@@ -1,6 +1,6 @@
 -- The tokens of a lawful bracketed tree are well formed, so their spaced text has them and reads.
 use Rattle.std.proofs.Common.{◌≡◌, ℕ, Bool, true, false, cond, List, [], ◌∷◌, ◌++◌, Some, None, codes, Option, sym, refl, subst, inr, arith}
-use Rattle.std.specs.List.{AllByRecursion as All}
+use Rattle.std.specs.List.{AllByRecursion}
 use Rattle.std.proofs.ByRecursion.{All-append, All-weaker}
 use Rattle.tokens.specs.declared.token.TokenKind.{TokenKind}
 use Rattle.tokens.specs.Limits.{Lawful as LawfulByte}
@@ -20,15 +20,15 @@ use Rattle.grammar.proofs.Tables.{sign_formed}
 kind_lawful : (b : ℕ) (k : TokenKind) → kind_of b ≡ Some k → LawfulByte b
 kind_lawful b k e unlawful = let none = separator_none b (inr unlawful) in let z : ◌≡◌ {A = ℕ} 0 1 = cc in omega arith
 
-space_lawful : (s : Bool) → All LawfulByte (cond s (codes " ") [])
+space_lawful : (s : Bool) → AllByRecursion LawfulByte (cond s (codes " ") [])
 space_lawful true = (λ e. let z : ◌≡◌ {A = ℕ} 0 1 = cc in omega arith, tt)
 space_lawful false = tt
 
-gap_lawful : (last : Option TokenKind) (k : TokenKind) → All LawfulByte (gap last k)
+gap_lawful : (last : Option TokenKind) (k : TokenKind) → AllByRecursion LawfulByte (gap last k)
 gap_lawful None k = tt
 gap_lawful (Some j) k = space_lawful (together j k)
 
-spaced_lawful : (last : Option TokenKind) (xs : List Lexeme) → All Formed xs → All LawfulByte (spaced_after last xs)
+spaced_lawful : (last : Option TokenKind) (xs : List Lexeme) → AllByRecursion Formed xs → AllByRecursion LawfulByte (spaced_after last xs)
 spaced_lawful last [] h = tt
 spaced_lawful last (x ∷ xs) h =
     All-append LawfulByte (gap last x.kind) (x.bytes ++ spaced_after (Some x.kind) xs) (gap_lawful last x.kind)
@@ -46,7 +46,7 @@ unfolding kind_of
 closing_formed = record { some = omega arith; alike = (refl, tt); alone = λ _. refl }
 
 module _ (t : Table) (lawful : LawfulTable t) where
-  pub lexemes_formed : (b : Bracketed) → Lawful t b → All Formed (lexemes t b)
+  pub lexemes_formed : (b : Bracketed) → Lawful t b → AllByRecursion Formed (lexemes t b)
   lexemes_formed (named w) l = (l.word, tt)
   lexemes_formed (pair b) l = (opening_formed, All-append Formed (lexemes t b) (closing ∷ []) (lexemes_formed b l) (closing_formed, tt))
   lexemes_formed (prefixed f b) (x, a, l) = (sign_formed t lawful f prefix x, lexemes_formed b l)
@@ -56,7 +56,7 @@ module _ (t : Table) (lawful : LawfulTable t) where
 
   pub spaces : (xs : List Lexeme) (tree : Tree) → ReadsTokens t xs tree → ReadsSpaced t xs tree
   spaces xs tree r =
-      let formed = subst (All Formed) r.tokens (lexemes_formed r.bracketed r.lawful) in
+      let formed = subst (AllByRecursion Formed) r.tokens (lexemes_formed r.bracketed r.lawful) in
       let cut = spacing_keeps_tokens xs formed in
       record { formed = formed; cut = cut; reads = record { bytes = spaced_lawful None xs formed; reading = subst (λ (l : List Lexeme). ReadsTokens t l tree) (sym cut) r } }
 

@@ -1,6 +1,6 @@
 -- The answer to a text, from the state that the machine is in: what a reader that follows the machine has to show.
 use Rattle.std.proofs.Common.{◌≡◌, ℕ, List, ◌∷◌, ◌++◌, map, length, Some, None, Ok, Err, sym, refl, ap, ◌∙◌}
-use Rattle.std.specs.List.{AllByRecursion as All}
+use Rattle.std.specs.List.{AllByRecursion}
 use Rattle.tokens.specs.Faults.{fault}
 use Rattle.tokens.specs.Limits.{Lawful as LawfulByte}
 use Rattle.tokens.specs.Spacing.{lexemes_of}
@@ -35,5 +35,5 @@ module _ (t : Table) (lawful : LawfulTable t) (text : List ℕ) where
       (fails_at_end, fails_at_end_lem t lawful text n e, ap (λ (v : Due). Err (fault (fault_at_end v) (length text))) due)
 
   -- it has the bracketed tree b at the end
-  pub answered_tree : All LawfulByte text → (b : Bracketed) → accepted t (lexemes_of text) ≡ Some b → Answered t text (Ok (erase b))
+  pub answered_tree : AllByRecursion LawfulByte text → (b : Bracketed) → accepted t (lexemes_of text) ≡ Some b → Answered t text (Ok (erase b))
   answered_tree bytes b e = (reads (erase b), found_reads t lawful text bytes b e, refl)

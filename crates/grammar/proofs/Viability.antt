@@ -1,6 +1,6 @@
 -- While the machine has not refused, some text goes on to read; once it has, none does.
 use Rattle.std.proofs.Common.{◌≡◌, ℕ, List, [], ◌∷◌, ◌++◌, replicate, Some, None, sym, refl, ap, ◌∙◌, subst, arith}
-use Rattle.std.specs.List.{AllByRecursion as All}
+use Rattle.std.specs.List.{AllByRecursion}
 use Rattle.std.proofs.ByRecursion.{All-append}
 use Rattle.tokens.specs.Spacing.{spaced}
 use Rattle.tokens.specs.Tokens.{Lexeme}
@@ -23,7 +23,7 @@ closings [] = []
 closings (bracket ∷ k) = closing ∷ closings k
 closings (pending u ∷ k) = closings k
 
-closings_formed : (k : List Frame) → All Formed (closings k)
+closings_formed : (k : List Frame) → AllByRecursion Formed (closings k)
 closings_formed [] = tt
 closings_formed (bracket ∷ k) = (closing_formed, closings_formed k)
 closings_formed (pending u ∷ k) = closings_formed k
@@ -51,7 +51,7 @@ module _ (t : Table) where
   -- some well-formed tokens lead from the state to a bracketed tree
   pub record GoesOn (st : State) : Type 0 where
     pub more : List Lexeme
-    pub formed : All Formed more
+    pub formed : AllByRecursion Formed more
     pub tree : Bracketed
     pub found : outcome (run t st more) ≡ Some tree
 
@@ -71,7 +71,7 @@ module _ (t : Table) where
     goes_on (operator_due k b) n = let (c, e) = shut k b in record { more = closings k; formed = closings_formed k; tree = c; found = e }
     goes_on refused n = absurd (n refl)
 
-    live_tokens : (front : List Lexeme) → All Formed front → (run t start front ≡ refused → ⊥) → LiveTokens t front
+    live_tokens : (front : List Lexeme) → AllByRecursion Formed front → (run t start front ≡ refused → ⊥) → LiveTokens t front
     live_tokens front h n =
         let g = goes_on (run t start front) n in
         let all = front ++ g.more in

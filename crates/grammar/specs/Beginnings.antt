@@ -1,6 +1,6 @@
 -- Beginnings: which lists of tokens begin a text that reads, and which begin none.
 use Rattle.std.specs.Prelude.{◌≡◌, ℕ, ◌↔◌, List, ◌++◌, ◌≢◌}
-use Rattle.std.specs.List.{AllByRecursion as All}
+use Rattle.std.specs.List.{AllByRecursion}
 use Rattle.tokens.specs.Spacing.{lexemes_of}
 use Rattle.tokens.specs.Tokens.{Lexeme}
 use Rattle.notation.specs.Tables.{Table, LawfulTable}
@@ -37,4 +37,4 @@ abbrev pub RefusedIsDead : Type 0
 RefusedIsDead = (t : Table) → LawfulTable t → (front : List Lexeme) → run t start front ≡ refused → Dead t front
 
 abbrev pub UnrefusedIsLive : Type 0
-UnrefusedIsLive = (t : Table) → LawfulTable t → (front : List Lexeme) → All Formed front → (run t start front ≢ refused) → Live t front
+UnrefusedIsLive = (t : Table) → LawfulTable t → (front : List Lexeme) → AllByRecursion Formed front → (run t start front ≢ refused) → Live t front

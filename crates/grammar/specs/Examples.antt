@@ -1,6 +1,6 @@
 -- Worked examples of reading, refusing and writing, under one list.
 use Rattle.std.specs.Prelude.{◌≡◌, ℕ, List, [], ◌∷◌, Err, codes}
-use Rattle.std.specs.List.{AllByRecursion as All}
+use Rattle.std.specs.List.{AllByRecursion}
 use Rattle.tokens.specs.declared.fault.FaultKind.{FaultKind}
 use Rattle.tokens.specs.Faults.{number_of, fault}
 use Rattle.tokens.specs.Spacing.{pairs_of}
@@ -67,4 +67,4 @@ examples =
 
 -- The law: the list is lawful, and every example is shown.
 abbrev pub ExamplesHold : Type 0
-ExamplesHold = LawfulTable example_table × All (Shown example_table) examples
+ExamplesHold = LawfulTable example_table × AllByRecursion (Shown example_table) examples

@@ -1,6 +1,6 @@
 -- The reading machine: it reads token by token, with a stack of what is not finished.
 use Rattle.std.specs.Prelude.{◌≡◌, ℕ, Bool, true, false, not, ◌&&◌, List, [], ◌∷◌, length, is_some, Some, None, Option, nat_le}
-use Rattle.std.specs.List.{AllByRecursion as All}
+use Rattle.std.specs.List.{AllByRecursion}
 use Rattle.tokens.specs.declared.token.TokenKind.{TokenKind}
 use Rattle.tokens.specs.declared.token.TokenKind.TheVariants.{Word, Symbol, Open, Close}
 use Rattle.tokens.specs.Tokens.{Lexeme}
@@ -131,4 +131,4 @@ MachineFindsAll = (t : Table) → LawfulTable t → (b : Bracketed) → Lawful t
 
 -- What is found from well-formed tokens is lawful, and has just those tokens.
 abbrev pub MachineFindsOnlyLawful : Type 0
-MachineFindsOnlyLawful = (t : Table) → LawfulTable t → (xs : List Lexeme) → All Formed xs → (b : Bracketed) → accepted t xs ≡ Some b → Lawful t b × (lexemes t b ≡ xs)
+MachineFindsOnlyLawful = (t : Table) → LawfulTable t → (xs : List Lexeme) → AllByRecursion Formed xs → (b : Bracketed) → accepted t xs ≡ Some b → Lawful t b × (lexemes t b ≡ xs)

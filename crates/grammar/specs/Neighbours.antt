@@ -1,6 +1,6 @@
 -- Neighbours: which of two operators takes the operand that stands between them.
 use Rattle.std.specs.Prelude.{◌≡◌, ℕ, ◌<◌, Bool, true, false, ◌⊎◌, List, [], ◌∷◌, Some, nat_le}
-use Rattle.std.specs.List.{AllByRecursion as All}
+use Rattle.std.specs.List.{AllByRecursion}
 use Rattle.tokens.specs.InOrder.{Only}
 use Rattle.notation.specs.declared.form.Side.TheVariants.{X, Y}
 use Rattle.notation.specs.Operators.{Op, left_side, right_side}
@@ -52,10 +52,10 @@ down_right (infixed f a b) = f ∷ down_right b
 -- its right neighbours down the left side of its right operand.
 module _ (t : Table) where
   abbrev pub LeftTook : ℕ → Bracketed → Type 0
-  LeftTook f a = All (λ g. Takes (operator_in t g) (operator_in t f) Left) (down_right a)
+  LeftTook f a = AllByRecursion (λ g. Takes (operator_in t g) (operator_in t f) Left) (down_right a)
 
   abbrev pub RightTook : ℕ → Bracketed → Type 0
-  RightTook f b = All (λ g. Takes (operator_in t f) (operator_in t g) Right) (down_left b)
+  RightTook f b = AllByRecursion (λ g. Takes (operator_in t f) (operator_in t g) Right) (down_left b)
 
   abbrev pub DecidesSo : Bracketed → Type 0
   DecidesSo (named w) = Unit {0}

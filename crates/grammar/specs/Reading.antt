@@ -1,6 +1,6 @@
 -- Reading: a text reads as a tree if some lawful bracketed tree has exactly its tokens and erases to the tree.
 use Rattle.std.specs.Prelude.{◌≡◌, ℕ, cond, List, [], ◌∷◌, ◌++◌, codes}
-use Rattle.std.specs.List.{AllByRecursion as All}
+use Rattle.std.specs.List.{AllByRecursion}
 use Rattle.tokens.specs.declared.token.TokenKind.{TokenKind}
 use Rattle.tokens.specs.declared.token.TokenKind.TheVariants.{Word, Symbol, Open, Close}
 use Rattle.tokens.specs.Bytes.{is_word_byte}
@@ -55,7 +55,7 @@ module _ (t : Table) where
 
   -- the text reads as the tree: its bytes may stand in an expression, and its tokens read as the tree
   pub record Reads (text : List ℕ) (tree : Tree) : Type 0 where
-    pub bytes : All LawfulByte text
+    pub bytes : AllByRecursion LawfulByte text
     pub reading : ReadsTokens (lexemes_of text) tree
 
 -- The laws, for every lawful table: a list of tokens has at most one lawful bracketed tree, so a text reads as at
@@ -68,7 +68,7 @@ AtMostOneTree = (t : Table) → LawfulTable t → (text : List ℕ) (x y : Tree)
 
 -- Tokens that read are those of a text that reads: they are well formed, and their spaced text has them and reads.
 pub record ReadsSpaced (t : Table) (xs : List Lexeme) (tree : Tree) : Type 0 where
-  pub formed : All Formed xs
+  pub formed : AllByRecursion Formed xs
   pub cut : lexemes_of (spaced xs) ≡ xs
   pub reads : Reads t (spaced xs) tree
 

@@ -1,6 +1,6 @@
 -- Refusals: the fault of a text that fails, by what is due and the token there.
 use Rattle.std.specs.Prelude.{◌≡◌, ℕ, ◌+◌, ◌-◌, ◌<◌, Bool, false, cond, not, ◌&&◌, List, [], ◌∷◌, map, length, is_some, Ok, Err, Result}
-use Rattle.std.specs.List.{AllByRecursion as All}
+use Rattle.std.specs.List.{AllByRecursion}
 use Rattle.tokens.specs.declared.fault.Fault.{Fault}
 use Rattle.tokens.specs.declared.fault.FaultKind.{FaultKind}
 use Rattle.tokens.specs.declared.fault.FaultKind.TheVariants.{UnlistedSymbol, OperandExpected, OperatorExpected, UnmatchedBracket, PriorityClash}
@@ -60,7 +60,7 @@ module _ (t : Table) where
 
 -- The laws. A text whose bytes may stand in an expression has one answer, and no other.
 abbrev pub OneAnswer : Type 0
-OneAnswer = (t : Table) → LawfulTable t → (text : List ℕ) → All LawfulByte text → (r : Result Tree Fault) × Only (Answered t text) r
+OneAnswer = (t : Table) → LawfulTable t → (text : List ℕ) → AllByRecursion LawfulByte text → (r : Result Tree Fault) × Only (Answered t text) r
 
 -- how many brackets are open after the tokens
 abbrev pub open_behind : TokenKind → ℕ → ℕ
@@ -81,4 +81,4 @@ abbrev pub UnmatchedIsUnmatched : Type 0
 UnmatchedIsUnmatched =
     (t : Table) → LawfulTable t → (text : List ℕ)
     → ((front : List Placed) (x : Placed) → FailsAt t text front x → x.kind ≡ Close → due_after t (map lexeme front) ≡ Operator → open_after (map lexeme front) ≡ 0)
-    × (All LawfulByte text → FailsAtEnd t text → due_after t (lexemes_of text) ≡ Operator → 0 < open_after (lexemes_of text))
+    × (AllByRecursion LawfulByte text → FailsAtEnd t text → due_after t (lexemes_of text) ≡ Operator → 0 < open_after (lexemes_of text))

@@ -1,6 +1,6 @@
 -- Verdicts: a text reads as a tree, or it fails at a token, or it fails at its end.
 use Rattle.std.specs.Prelude.{◌≡◌, ℕ, List, [], ◌∷◌, ◌++◌, map}
-use Rattle.std.specs.List.{AllByRecursion as All}
+use Rattle.std.specs.List.{AllByRecursion}
 use Rattle.tokens.specs.InOrder.{Only}
 use Rattle.tokens.specs.Limits.{Lawful as LawfulByte}
 use Rattle.tokens.specs.Spacing.{lexemes_of}
@@ -36,4 +36,4 @@ module _ (t : Table) (text : List ℕ) where
 
 -- The law: of a text whose bytes may stand in an expression one verdict holds, and no other.
 abbrev pub OneVerdict : Type 0
-OneVerdict = (t : Table) → LawfulTable t → (text : List ℕ) → All LawfulByte text → (v : Verdict) × Only (Holds t text) v
+OneVerdict = (t : Table) → LawfulTable t → (text : List ℕ) → AllByRecursion LawfulByte text → (v : Verdict) × Only (Holds t text) v

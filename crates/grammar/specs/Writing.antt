@@ -1,7 +1,7 @@
 -- The writing rule: from the operands upward, a pair goes round an operand exactly when its weight towards the operator,
 -- with the pairs already inside it, is outside the limit.
 use Rattle.std.specs.Prelude.{◌≡◌, ℕ, ◌≤◌, Bool, true, false, ◌↔◌, List, Some, None, Option}
-use Rattle.std.specs.List.{AllByRecursion as All}
+use Rattle.std.specs.List.{AllByRecursion}
 use Rattle.tokens.specs.Spacing.{spaced, lexemes_of, pairs_of}
 use Rattle.notation.specs.Operators.{Op, Fixity, operands_of}
 use Rattle.notation.specs.Operators.Fixity.{prefix, postfix, between}
@@ -64,7 +64,7 @@ module _ (t : Table) where
 pub record Written (t : Table) (tree : Tree) : Type 0 where
   pub lawful : Lawful t (write t tree)
   pub erased : erase (write t tree) ≡ tree
-  pub formed : All Formed (lexemes t (write t tree))
+  pub formed : AllByRecursion Formed (lexemes t (write t tree))
   pub cut : lexemes_of (written t tree) ≡ lexemes t (write t tree)
   pub reads : Reads t (written t tree) tree
   pub count : pairs_of (written t tree) ≡ pairs (write t tree)

@@ -1,7 +1,7 @@
 -- A line has its fields in one way only, and a number its value. Assumes nothing.
 use Rattle.std.proofs.Common.{◌≡◌, ℕ, ◌+◌, ◌-◌, ◌*◌, ◌^◌, ◌<◌, ◌≤◌, Bool, true, false, cond, not, eqb, leb, List, [], ◌∷◌, ◌++◌, length, get_or, take, drop, Some, Decides, Option, sym, refl, ap, ◌∙◌, subst, ⊎_elim, mul-le-mul_right, mul_assoc, pow-suc, add-one, arith}
 use native.Mathlib.Nat.{pow-le-pow_right}
-use Rattle.std.specs.List.{ContainsAt as Has, AllByRecursion as All}
+use Rattle.std.specs.List.{ContainsAt as Has, AllByRecursion}
 use Rattle.std.specs.Str.{bytes_eq}
 use Rattle.std.proofs.ByRecursion.{All-from_get_or, all-has, has_get_or}
 use Rattle.std.proofs.lemmas.List.{take-append-drop, drop_more, take_rest, length_push, length-take-le}
@@ -12,7 +12,7 @@ use Rattle.notation.specs.declared.form.Form.TheVariants.{Fx, Fy, Xf, Yf, Xfx, X
 use Rattle.notation.specs.Lines.{Field, Fields, Parted, decimal, Number, Said, Says, word_of}
 
 abbrev pub Spaceless : List ℕ → Type 0
-Spaceless bytes = All (λ b. b ≡ 32 → ⊥) bytes
+Spaceless bytes = AllByRecursion (λ b. b ≡ 32 → ⊥) bytes
 
 -- what stands before a first space, and after it
 pub same_split : (x u y v : List ℕ) → Spaceless x → Spaceless u → x ++ (32 ∷ y) ≡ u ++ (32 ∷ v) → (x ≡ u) × (y ≡ v)
@@ -125,14 +125,14 @@ decimal_push (x ∷ xs) d =
     let first : (x - 48) * 10 ^ length (xs ++ d ∷ []) ≡ (x - 48) * 10 ^ length xs * 10 = ap (λ n. (x - 48) * n) more ∙ sym (mul_assoc (x - 48) (10 ^ length xs) 10) in
     omega (arith, first, decimal_push xs d)
 
-pub decimal_lt : (ds : List ℕ) → All (λ b. is_digit b ≡ true) ds → decimal ds < 10 ^ length ds
+pub decimal_lt : (ds : List ℕ) → AllByRecursion (λ b. is_digit b ≡ true) ds → decimal ds < 10 ^ length ds
 decimal_lt [] h = omega arith
 decimal_lt (x ∷ xs) h =
     let small : x - 48 ≤ 9 = omega (arith, digit_high x h.0) in
     omega (arith, pow-suc 10 (length xs), mul-le-mul_right (10 ^ length xs) small, decimal_lt xs h.1)
 
 -- a number of fewer than four digits
-pub decimal_small : (ds : List ℕ) → All (λ b. is_digit b ≡ true) ds → length ds ≤ 3 → decimal ds < 1000
+pub decimal_small : (ds : List ℕ) → AllByRecursion (λ b. is_digit b ≡ true) ds → length ds ≤ 3 → decimal ds < 1000
 decimal_small ds h few = let ten : 0 < 10 = omega arith in omega (arith, decimal_lt ds h, pow-le-pow_right ten few)
 
 pub small_front : (ds : List ℕ) (i : ℕ) → i < length ds → length ds ≤ 4 → length (take i ds) ≤ 3

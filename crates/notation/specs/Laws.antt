@@ -6,7 +6,7 @@ use Rattle.std.proofs.Math.Logic.{∥∥₁_elim}
 use Rattle.std.proofs.Math.Bridge.{le_prop}
 use Rattle.std.proofs.Math.Nat.{ℕ_set}
 use base.Stored.{Coded-set, coded_bool}
-use Rattle.std.specs.List.{AllByRecursion as All}
+use Rattle.std.specs.List.{AllByRecursion}
 use Rattle.tokens.specs.declared.token.TokenKind.{TokenKind}
 use Rattle.tokens.specs.declared.token.TokenKind.TheVariants as K
 use Rattle.tokens.specs.Bytes.{is_digit}
@@ -44,7 +44,7 @@ kind_set =
     by_number : (j k : Option TokenKind) → numbered j ≡ numbered k → j ≡ k
     by_number j k e = sym (back j) ∙ ap kind_at e ∙ back k
 
-all_one : {X : Type 0} (P : X → Type 0) → ((x : X) → IsProp (P x)) → (xs : List X) → IsProp (All P xs)
+all_one : {X : Type 0} (P : X → Type 0) → ((x : X) → IsProp (P x)) → (xs : List X) → IsProp (AllByRecursion P xs)
 all_one P one [] p q = refl
 all_one P one (x ∷ xs) p q = λ i. (one x p.0 q.0 i, all_one P one xs p.1 q.1 i)
 

@@ -1,6 +1,6 @@
 -- What a line says: function, priority, type and spelling, parted by single spaces.
 use Rattle.std.specs.Prelude.{◌≡◌, ℕ, ◌+◌, ◌-◌, ◌*◌, ◌^◌, ◌≤◌, true, List, [], ◌∷◌, ◌++◌, length, codes, ◌≢◌}
-use Rattle.std.specs.List.{AllByRecursion as All}
+use Rattle.std.specs.List.{AllByRecursion}
 use Rattle.tokens.specs.Bytes.{is_digit}
 use Rattle.notation.specs.declared.form.Form.{Form}
 use Rattle.notation.specs.declared.form.Form.TheVariants.{Fx, Fy, Xf, Yf, Xfx, Xfy, Yfx}
@@ -9,7 +9,7 @@ use Rattle.notation.specs.Operators.{Op}
 -- a field has some bytes, and no space, byte 32, among them
 pub record Field (bytes : List ℕ) : Type 0 where
   pub some : 1 ≤ length bytes
-  pub spaceless : All (λ b. b ≢ 32) bytes
+  pub spaceless : AllByRecursion (λ b. b ≢ 32) bytes
 
 -- the four fields of a line
 pub record Fields : Type 0 where
@@ -34,7 +34,7 @@ decimal (d ∷ ds) = (d - 48) * 10 ^ length ds + decimal ds
 pub record Number (digits : List ℕ) (n : ℕ) : Type 0 where
   pub some : 1 ≤ length digits
   pub few : length digits ≤ 4
-  pub each : All (λ b. is_digit b ≡ true) digits
+  pub each : AllByRecursion (λ b. is_digit b ≡ true) digits
   pub value : n ≡ decimal digits
 
 -- What a line says: two numbers, and the other two fields as they stand.

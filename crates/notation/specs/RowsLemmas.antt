@@ -1,7 +1,7 @@
 -- A table whose rows pass one test is lawful, and its rows tell what is listed. Assumes nothing.
 use Rattle.std.specs.Prelude.{◌≡◌, ℕ, Bool, true, false, not, ◌&&◌, ◌||◌, List, [], ◌∷◌, length, Some, None, Option, ◌==◌, nat_le, nat_lt, refl}
 use Rattle.std.proofs.Common.{sym, ap, subst, ◌∙◌, inl, inr, ⊎_elim, arith}
-use Rattle.std.specs.List.{AllByRecursion as All}
+use Rattle.std.specs.List.{AllByRecursion}
 use Rattle.std.proofs.lemmas.Bool.{false≢true, true≢false, both_ways, and_parts, or_cases, not-true, cases_Bool, ltb-true, leb-true, eqb-true, eq-eqb, and_from, or_left, or_right, cond-true, cond-false}
 use Rattle.tokens.specs.declared.byte.ByteClass.TheVariants as C
 use Rattle.tokens.specs.declared.token.TokenKind.TheVariants as K
@@ -50,7 +50,7 @@ are_lawful [] = true
 are_lawful (r ∷ rs) = is_op r && (all (is_apart r) rs && are_lawful rs)
 
 -- what it says of a spelling
-all_all : {X : Type 0} (test : X → Bool) (P : X → Type 0) → ((x : X) → test x ≡ true → P x) → (xs : List X) → all test xs ≡ true → All P xs
+all_all : {X : Type 0} (test : X → Bool) (P : X → Type 0) → ((x : X) → test x ≡ true → P x) → (xs : List X) → all test xs ≡ true → AllByRecursion P xs
 all_all test P h [] e = tt
 all_all test P h (x ∷ xs) e = let both = and_parts (test x) (all test xs) e in (h x both.0, all_all test P h xs both.1)
 

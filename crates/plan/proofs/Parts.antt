@@ -1,6 +1,6 @@
 -- A plan line has one way to be taken apart. Assumes nothing.
 use Rattle.std.proofs.Common.{◌≡◌, ℕ, ◌+◌, ◌-◌, ◌<◌, ◌≤◌, true, false, List, [], ◌∷◌, ◌++◌, length, get_or, take, drop, sym, refl, ap, ◌∙◌, subst, arith}
-use Rattle.std.specs.List.{AllByRecursion as All}
+use Rattle.std.specs.List.{AllByRecursion}
 use Rattle.std.proofs.lemmas.List.{take-append-drop, length-take-le, drop_more, drop_all}
 use Rattle.std.proofs.lemmas.Bool.{false≢true}
 use Rattle.plan.specs.PlanLines.{Digit, IsPlanLine, NoPlanLine, DigitsEnd}
@@ -12,7 +12,7 @@ tail_same : (x y : ℕ) (xs ys : List ℕ) → x ∷ xs ≡ y ∷ ys → xs ≡ 
 tail_same x y xs ys e = cc
 
 -- digits end in one place
-one_split : (a b c d : List ℕ) → All Digit a → DigitsEnd b → All Digit c → DigitsEnd d → a ++ b ≡ c ++ d → (a ≡ c) × (b ≡ d)
+one_split : (a b c d : List ℕ) → AllByRecursion Digit a → DigitsEnd b → AllByRecursion Digit c → DigitsEnd d → a ++ b ≡ c ++ d → (a ≡ c) × (b ≡ d)
 one_split [] b [] d p q r s e = (refl, e)
 one_split [] b (y ∷ c) d p q r s e = absurd (subst DigitsEnd e q r.0)
 one_split (x ∷ a) b [] d p q r s e = absurd (subst DigitsEnd (sym e) s p.0)
@@ -30,7 +30,7 @@ ends_past line r end = subst DigitsEnd (sym (drop_all r line end)) tt
 tab_ends : (rest : List ℕ) → DigitsEnd (9 ∷ rest)
 tab_ends rest = λ e. false≢true e
 
-module _ (line : List ℕ) (r : ℕ) (within : r ≤ length line) (digits : All Digit (take r line)) (stops : DigitsEnd (drop r line)) where
+module _ (line : List ℕ) (r : ℕ) (within : r ≤ length line) (digits : AllByRecursion Digit (take r line)) (stops : DigitsEnd (drop r line)) where
   -- a plan line's digits are those that the line begins with
   parts : (ds es : List ℕ) → IsPlanLine line ds es → (ds ≡ take r line) × (9 ∷ es ≡ drop r line)
   parts ds es h = one_split ds (9 ∷ es) (take r line) (drop r line) h.all (tab_ends es) digits stops (sym h.split ∙ sym (take-append-drop r line))

@@ -1,25 +1,25 @@
 -- An input is split into its lines and into nothing else. Assumes nothing.
 use Rattle.std.proofs.Common.{◌≡◌, ℕ, ◌+◌, ◌-◌, ◌<◌, ◌≤◌, min, Bool, true, false, eqb, ◌⊎◌, List, [], ◌∷◌, ◌++◌, length, get_or, take, drop, sym, refl, ap, ◌∙◌, subst, inl, inr, ⊎_elim, arith}
-use Rattle.std.specs.List.{AllByRecursion as All}
+use Rattle.std.specs.List.{AllByRecursion}
 use Rattle.std.proofs.lemmas.List.{take-append-drop, length-drop, drop-drop, drop_more, drop_all, take_all}
 use Rattle.std.proofs.lemmas.Bool.{cases_lt, ne_eqb, eqb-true, eqb-false}
 use Rattle.plan.specs.InputLines.{longer, before, lines_of, NoLineEnd, SplitInto, Lines, LineEnds}
 
 -- a line in front of its byte 10
-line_lines : (l rest : List ℕ) → All NoLineEnd l → lines_of (l ++ (10 ∷ rest)) ≡ l ∷ lines_of rest
+line_lines : (l rest : List ℕ) → AllByRecursion NoLineEnd l → lines_of (l ++ (10 ∷ rest)) ≡ l ∷ lines_of rest
 unfolding lines_of
 line_lines [] rest h = refl
 line_lines (b ∷ l) rest h =
     ap (λ (v : Bool). before v b (lines_of (l ++ (10 ∷ rest)))) (ne_eqb b 10 h.0) ∙ ap (longer b) (line_lines l rest h.1)
 
 -- a last line with no byte 10 after it
-last_lines : (b : ℕ) (l : List ℕ) → All NoLineEnd (b ∷ l) → lines_of (b ∷ l) ≡ (b ∷ l) ∷ []
+last_lines : (b : ℕ) (l : List ℕ) → AllByRecursion NoLineEnd (b ∷ l) → lines_of (b ∷ l) ≡ (b ∷ l) ∷ []
 unfolding lines_of
 last_lines b [] h = ap (λ (v : Bool). before v b []) (ne_eqb b 10 h.0)
 last_lines b (c ∷ l) h =
     ap (λ (v : Bool). before v b (lines_of (c ∷ l))) (ne_eqb b 10 h.0) ∙ ap (longer b) (last_lines c l h.1)
 
-some_last : (l : List ℕ) → 0 < length l → All NoLineEnd l → lines_of l ≡ l ∷ []
+some_last : (l : List ℕ) → 0 < length l → AllByRecursion NoLineEnd l → lines_of l ≡ l ∷ []
 some_last [] some h = absurd (omega arith)
 some_last (b ∷ l) some h = last_lines b l h
 
@@ -52,7 +52,7 @@ pub lines : (input : List ℕ) → Lines input (lines_of input)
 lines input = record { split = split input; only = λ ms h. only ms input h }
 
 -- The next line of an input, from place a to place b.
-module _ (input : List ℕ) (a b : ℕ) (forward : a ≤ b) (within : b ≤ length input) (clear : All NoLineEnd (take (b - a) (drop a input))) where
+module _ (input : List ℕ) (a b : ℕ) (forward : a ≤ b) (within : b ≤ length input) (clear : AllByRecursion NoLineEnd (take (b - a) (drop a input))) where
   parts : drop a input ≡ take (b - a) (drop a input) ++ drop b input
   parts =
       let e : a + (b - a) ≡ b = omega arith in
@@ -71,7 +71,7 @@ module _ (input : List ℕ) (a b : ℕ) (forward : a ≤ b) (within : b ≤ leng
       let long : 0 < length (drop a input) = omega (arith, length-drop a input) in
       let back : drop a input ≡ take (b - a) (drop a input) = sym whole in
       let none : [] ≡ lines_of (drop b input) = sym (ap lines_of (drop_all b input end) ∙ no_lines) in
-      some_last (drop a input) long (subst (All NoLineEnd) whole clear) ∙ (λ i. back i ∷ none i)
+      some_last (drop a input) long (subst (AllByRecursion NoLineEnd) whole clear) ∙ (λ i. back i ∷ none i)
 
   pub next_line : LineEnds (drop b input) → a < length input → lines_of (drop a input) ≡ take (b - a) (drop a input) ∷ lines_of (drop (min (b + 1) (length input)) input)
   next_line stops some =

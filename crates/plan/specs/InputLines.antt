@@ -1,6 +1,6 @@
 -- The lines of an input: it is parted at each byte 10.
 use Rattle.std.specs.Prelude.{◌≡◌, ℕ, ◌<◌, Bool, true, false, ◌⊎◌, List, [], ◌∷◌, ◌++◌, length, take, ◌==◌}
-use Rattle.std.specs.List.{AllByRecursion as All}
+use Rattle.std.specs.List.{AllByRecursion}
 
 -- The definition. A byte belongs to the first line of what follows it; a byte 10 begins a line of its own, which it ends.
 abbrev pub longer : ℕ → List (List ℕ) → List (List ℕ)
@@ -23,7 +23,7 @@ NoLineEnd b = b ≡ 10 → ⊥
 abbrev pub SplitInto : List ℕ → List (List ℕ) → Type 0
 SplitInto input [] = input ≡ []
 SplitInto input (l ∷ ls) =
-    All NoLineEnd l
+    AllByRecursion NoLineEnd l
     × (((rest : List ℕ) × (input ≡ l ++ (10 ∷ rest)) × SplitInto rest ls) ⊎ ((input ≡ l) × (0 < length l) × (ls ≡ [])))
 
 pub record Lines (input : List ℕ) (ls : List (List ℕ)) : Type 0 where

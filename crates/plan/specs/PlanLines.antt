@@ -1,6 +1,6 @@
 -- Plan lines: 1 to 8 digits, a tab, and an expression.
 use Rattle.std.specs.Prelude.{◌≡◌, ℕ, ◌≤◌, true, List, [], ◌∷◌, ◌++◌, length}
-use Rattle.std.specs.List.{AllByRecursion as All}
+use Rattle.std.specs.List.{AllByRecursion}
 use Rattle.tokens.specs.Bytes.{is_digit}
 
 abbrev pub Digit : ℕ → Type 0
@@ -9,7 +9,7 @@ Digit b = is_digit b ≡ true
 -- the line is these digits, a tab (byte 9), and this expression
 pub record IsPlanLine (line digits expression : List ℕ) : Type 0 where
   pub split : line ≡ digits ++ (9 ∷ expression)
-  pub all : All Digit digits
+  pub all : AllByRecursion Digit digits
   pub some : 1 ≤ length digits
   pub few : length digits ≤ 8
 

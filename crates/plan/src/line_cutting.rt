@@ -1,6 +1,6 @@
 // How the lines of an input are parted.
 ghost use Rattle.std.specs.Prelude.{◌≡◌, ◌-◌, ◌≤◌, length, take, drop};
-ghost use Rattle.std.specs.List.{AllByRecursion as All};
+ghost use Rattle.std.specs.List.{AllByRecursion};
 ghost use Rattle.plan.specs.InputLines.{NoLineEnd, LineEnds, Lines, lines_of};
 ghost use Rattle.plan.specs.LinesAhead.{ahead, Next};
 ghost use Rattle.std.specs.Iterator.{at_most};
@@ -22,7 +22,7 @@ fn line_end(input: &[u8], from: usize) -> usize
     requires { from ≤ length input.now }
     ensures forward { from ≤ result }
     ensures within { result ≤ length input.now }
-    ensures clear { All NoLineEnd (take (result - from) (drop from input.now)) }
+    ensures clear { AllByRecursion NoLineEnd (take (result - from) (drop from input.now)) }
     ensures stops { LineEnds (drop result input.now) }
 {
     let mut end = from;

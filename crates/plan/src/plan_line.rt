@@ -1,6 +1,6 @@
 // A plan line: digits, a tab, and an expression.
 ghost use Rattle.std.specs.Prelude.{◌≡◌, ℕ, ◌<◌, ◌≤◌, ◌⊎◌, List, length, take, drop, IfOk, MatchBool, MatchResult};
-ghost use Rattle.std.specs.List.{AllByRecursion as All};
+ghost use Rattle.std.specs.List.{AllByRecursion};
 ghost use Rattle.tokens.specs.Faults.{fault};
 ghost use Rattle.tokens.specs.declared.fault.FaultKind.TheVariants.{MalformedLine};
 ghost use Rattle.plan.specs.PlanLines.{Digit, DigitsEnd, IsPlanLine, NoPlanLine};
@@ -20,7 +20,7 @@ pub struct PlanLine<'a> {
 // How many digits the line begins with.
 fn leading_digits(line: &[u8]) -> usize
     ensures within { result ≤ length line.now }
-    ensures digits { All Digit (take result line.now) }
+    ensures digits { AllByRecursion Digit (take result line.now) }
     ensures stops { DigitsEnd (drop result line.now) }
 {
     let mut count = 0;

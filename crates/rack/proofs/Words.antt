@@ -1,6 +1,6 @@
 -- The word that a name's bytes spell, and when the bytes are a proper name.
 use Rattle.std.proofs.Common.{◌≡◌, ℕ, zero, suc, ◌+◌, ◌-◌, ◌<◌, ◌≤◌, Bool, true, false, cond, eqb, List, [], ◌∷◌, ◌++◌, length, get_or, take, drop, replicate, Some, Decides, MatchBool, sym, refl, ap, ◌∙◌, subst, append_assoc, append-nil, arith}
-use Rattle.std.specs.List.{AllByRecursion as All}
+use Rattle.std.specs.List.{AllByRecursion}
 use Rattle.std.proofs.ByRecursion.{All-get_or}
 use Rattle.std.proofs.lemmas.List.{length-drop, length-take-le, take-append-drop, take_more, drop_all, drop_more, drop_at}
 use Rattle.std.proofs.lemmas.Bool.{both_ways, eq-eqb, ne_eqb, cond-true, cond-false}
@@ -14,7 +14,7 @@ use Rattle.rack.specs.Nodes.{padded}
 use Rattle.rack.specs.Names.{ShortWord, ProperName, spelt}
 
 -- one element that is not so is enough
-pub not_all : {X : Type 0} (P : X → Type 0) (xs : List X) (i : ℕ) (d : X) → i < length xs → (P (get_or xs i d) → ⊥) → All P xs → ⊥
+pub not_all : {X : Type 0} (P : X → Type 0) (xs : List X) (i : ℕ) (d : X) → i < length xs → (P (get_or xs i d) → ⊥) → AllByRecursion P xs → ⊥
 not_all P xs i d lt not-here all = not-here (All-get_or P xs i d lt all)
 
 -- an answer in other words
@@ -88,18 +88,18 @@ spelt_zeros : (n : ℕ) → spelt (replicate n 0) ≡ []
 spelt_zeros zero = refl
 spelt_zeros (suc n) = refl
 
-spelt_before_zeros : (w : List ℕ) (n : ℕ) → All InWord w → spelt (w ++ replicate n 0) ≡ w
+spelt_before_zeros : (w : List ℕ) (n : ℕ) → AllByRecursion InWord w → spelt (w ++ replicate n 0) ≡ w
 spelt_before_zeros [] n all = spelt_zeros n
 spelt_before_zeros (b ∷ w) n (here, all) = goes_on b (w ++ replicate n 0) (word_some b here) ∙ ap (λ (l : List ℕ). b ∷ l) (spelt_before_zeros w n all)
 
 pub spelt_padded : (w : List ℕ) → ShortWord w → spelt (padded w) ≡ w
 spelt_padded w short = spelt_before_zeros w (16 - length w) short.word.alike
 
-zeros : (xs : List ℕ) → All IsZero xs → xs ≡ replicate (length xs) 0
+zeros : (xs : List ℕ) → AllByRecursion IsZero xs → xs ≡ replicate (length xs) 0
 zeros [] all = refl
 zeros (x ∷ xs) (here, all) = λ i. here i ∷ zeros xs all i
 
-all_zeros : (n : ℕ) → All IsZero (replicate n 0)
+all_zeros : (n : ℕ) → AllByRecursion IsZero (replicate n 0)
 all_zeros zero = tt
 all_zeros (suc n) = (refl, all_zeros n)
 
@@ -113,7 +113,7 @@ module _ (n : Name) (len : ℕ) (long : length n.bytes ≡ 16) (within : len ≤
   word_long : length (take len n.bytes) ≡ len
   word_long = length-take-le len n.bytes (omega arith)
 
-  proper : WellFormed Word (take len n.bytes) → All IsZero (drop len n.bytes) → ProperName n
+  proper : WellFormed Word (take len n.bytes) → AllByRecursion IsZero (drop len n.bytes) → ProperName n
   proper formed rest =
       let w = take len n.bytes in
       let unused : length (drop len n.bytes) ≡ 16 - length w = omega (arith, length-drop len n.bytes, word_long) in
@@ -126,13 +126,13 @@ module _ (n : Name) (len : ℕ) (long : length n.bytes ≡ 16) (within : len ≤
     proper_word : WellFormed Word (take len n.bytes)
     proper_word = subst (WellFormed Word) (sym is_word) name.1.word
 
-    proper_rest : All IsZero (drop len n.bytes)
+    proper_rest : AllByRecursion IsZero (drop len n.bytes)
     proper_rest =
         let w = name.0 in
         let at : length w ≡ len = sym (ap length is_word) ∙ word_long in
-        subst (All IsZero) (sym (ap (drop len) name.2 ∙ drop_at w (replicate (16 - length w) 0) len at)) (all_zeros (16 - length w))
+        subst (AllByRecursion IsZero) (sym (ap (drop len) name.2 ∙ drop_at w (replicate (16 - length w) 0) len at)) (all_zeros (16 - length w))
 
-  pub proper_if_word : (r : Bool) → WellFormed Word (take len n.bytes) → MatchBool r (All IsZero (drop len n.bytes)) (All IsZero (drop len n.bytes) → ⊥) → MatchBool r (ProperName n) (ProperName n → ⊥)
+  pub proper_if_word : (r : Bool) → WellFormed Word (take len n.bytes) → MatchBool r (AllByRecursion IsZero (drop len n.bytes)) (AllByRecursion IsZero (drop len n.bytes) → ⊥) → MatchBool r (ProperName n) (ProperName n → ⊥)
   proper_if_word r formed = when_so r (proper formed) (λ other name. other (proper_rest name))
 
   pub proper_no_word : (WellFormed Word (take len n.bytes) → ⊥) → ProperName n → ⊥

@@ -1,6 +1,6 @@
 // What a name's sixteen bytes say: its word, whether it is proper, and whether two are the same.
 ghost use Rattle.std.specs.Prelude.{◌≡◌, ◌≤◌, take, Some, MatchBool, ◌≢◌};
-ghost use Rattle.std.specs.List.{AllByRecursion as All};
+ghost use Rattle.std.specs.List.{AllByRecursion};
 ghost use Rattle.tokens.specs.Tokens.{kind_of, WellFormed};
 ghost use Rattle.tokens.specs.declared.token.TokenKind.TheVariants.{Word};
 ghost use Rattle.rack.specs.Names.{ProperName, spelt};
@@ -17,7 +17,7 @@ fn is_word_byte(byte: u8) -> bool
 
 // Whether all of the bytes are word bytes.
 fn are_word_bytes(bytes: &[u8]) -> bool
-    ensures { MatchBool result (All (λ b. kind_of b ≡ Some Word) bytes.now) (All (λ b. kind_of b ≡ Some Word) bytes.now → ⊥) }
+    ensures { MatchBool result (AllByRecursion (λ b. kind_of b ≡ Some Word) bytes.now) (AllByRecursion (λ b. kind_of b ≡ Some Word) bytes.now → ⊥) }
 {
     for byte in bytes {
         if !is_word_byte(*byte) {
@@ -36,7 +36,7 @@ fn is_word(bytes: &[u8]) -> bool
 
 // Whether all of the bytes are zeros.
 fn are_zeros(bytes: &[u8]) -> bool
-    ensures { MatchBool result (All (λ b. b ≡ 0) bytes.now) (All (λ b. b ≡ 0) bytes.now → ⊥) }
+    ensures { MatchBool result (AllByRecursion (λ b. b ≡ 0) bytes.now) (AllByRecursion (λ b. b ≡ 0) bytes.now → ⊥) }
 {
     for byte in bytes {
         if *byte != 0 {

@@ -1,6 +1,6 @@
 -- What the loop over the tokens keeps, and what it comes to.
 use Rattle.std.proofs.Common.{◌≡◌, ℕ, ◌+◌, ◌^◌, ◌<◌, ◌≤◌, List, [], ◌∷◌, ◌++◌, map, length, Some, None, Ok, Err, Option, sym, refl, ap, ◌∙◌, subst, append_assoc, append-nil, arith}
-use Rattle.std.specs.List.{AllByRecursion as All}
+use Rattle.std.specs.List.{AllByRecursion}
 use Rattle.std.proofs.lemmas.List.{length-append, length-map, map_push}
 use Rattle.tokens.specs.Faults.{fault}
 use Rattle.tokens.specs.Limits.{Lawful as LawfulByte, WithinLimits}
@@ -148,7 +148,7 @@ module _ (t : Table) (text : List ℕ) (old : List Node) (mark : ℕ) where
           (ap M.outcome (sym same) ∙ no_tree old mark (M.outcome state) (finished mark (reached h.done)) (outcome_finishes old mark state (reached h.done) shows) (ap (finished mark) h.at ∙ sym fails))
 
       -- the text reads as a tree, and the rack holds its nodes
-      pub text_read : All LawfulByte text → ahead ≡ [] → (k : List Pending) (rack : List Node) (n : ℕ) → Some (site k rack n) ≡ finished mark (stands d s) → (tree : Tree) × Reads t text tree × Holding old rack mark n (nodes_of tree)
+      pub text_read : AllByRecursion LawfulByte text → ahead ≡ [] → (k : List Pending) (rack : List Node) (n : ℕ) → Some (site k rack n) ≡ finished mark (stands d s) → (tree : Tree) × Reads t text tree × Holding old rack mark n (nodes_of tree)
       text_read bytes end k rack n ends =
           let l = laid old mark (M.outcome state) (finished mark (reached h.done)) k rack n (outcome_finishes old mark state (reached h.done) shows) (ap (finished mark) h.at ∙ sym ends) in
           (erase l.tree, found_reads t lawful text bytes l.tree (ap M.outcome (sym (run_whole end)) ∙ l.is), l.nodes)

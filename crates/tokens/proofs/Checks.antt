@@ -1,6 +1,6 @@
 -- What the checks of an expression keep from turn to turn, and that they have one answer.
 use Rattle.std.proofs.Common.{◌≡◌, ℕ, ◌+◌, ◌<◌, ◌≤◌, ◌⊎◌, List, [], ◌∷◌, ◌++◌, length, get_or, take, Some, None, Ok, Err, Option, Result, sym, refl, ap, ◌∙◌, subst, inl, inr, ⊎_elim, append_assoc, append-nil, arith}
-use Rattle.std.specs.List.{AllByRecursion as All}
+use Rattle.std.specs.List.{AllByRecursion}
 use Rattle.std.specs.Option.{option_or}
 use Rattle.std.proofs.ByRecursion.{All-push}
 use Rattle.std.proofs.lemmas.List.{length_push}
@@ -14,7 +14,7 @@ use Rattle.tokens.specs.Tokens.{Placed, tokens_of}
 use Rattle.tokens.proofs.Firsts.{nth_one, nth_inside, first_one, first_none, first_at, first_front, first_last, if_one, if_some_one}
 
 -- the first unlawful byte, found at an index
-pub unlawful_at : (text : List ℕ) (i : ℕ) → i < length text → All Lawful (take i text) → Unlawful (get_or text i 0) → FirstUnlawful text i
+pub unlawful_at : (text : List ℕ) (i : ℕ) → i < length text → AllByRecursion Lawful (take i text) → Unlawful (get_or text i 0) → FirstUnlawful text i
 unlawful_at text i lt none here = (get_or text i 0, first_at Unlawful text i 0 lt none here)
 
 -- the first long word, after one token more
@@ -68,17 +68,17 @@ none_long text none p (i, t, first, at) = first_none LongWord (tokens_of text) n
 pub counted_all : (text : List ℕ) (ahead : List Placed) (count : ℕ) → Counted text ahead count None → ahead ≡ [] → TokenLimits text (Ok tt)
 counted_all text ahead count h end = let all = all_counted text ahead count None h end in inr (none_over text all.0, inr (none_long text all.1, refl))
 
-pub none_unlawful : (text : List ℕ) → All Lawful text → (p : ℕ) → FirstUnlawful text p → ⊥
+pub none_unlawful : (text : List ℕ) → AllByRecursion Lawful text → (p : ℕ) → FirstUnlawful text p → ⊥
 none_unlawful text none p (b, first) = first_none Unlawful text none p b first
 
 -- a fault is found in an expression of at most 4,096 bytes
 pub unlawful_found : (text : List ℕ) (f : Fault) → length text ≤ 4096 → FirstUnlawful text f.place × (f ≡ fault UnlawfulByte f.place) → Limits text (Err f)
 unlawful_found text f short (first, is) = inr (λ over. omega arith, inl (f.place, first, ap Err is))
 
-pub tokens_checked : (text : List ℕ) (r : Result (Unit {0}) Fault) → length text ≤ 4096 → All Lawful text → TokenLimits text r → Limits text r
+pub tokens_checked : (text : List ℕ) (r : Result (Unit {0}) Fault) → length text ≤ 4096 → AllByRecursion Lawful text → TokenLimits text r → Limits text r
 tokens_checked text r short lawful h = inr (λ over. omega arith, inr (none_unlawful text lawful, h))
 
-pub within : (text : List ℕ) → length text ≤ 4096 → All Lawful text → (length (tokens_of text) ≤ 1024) × LongWordIn (tokens_of text) None → WithinLimits text
+pub within : (text : List ℕ) → length text ≤ 4096 → AllByRecursion Lawful text → (length (tokens_of text) ≤ 1024) × LongWordIn (tokens_of text) None → WithinLimits text
 within text short lawful counted = record { bytes = short; lawful = lawful; tokens = counted.0; words = counted.1 }
 
 -- the limits leave one answer

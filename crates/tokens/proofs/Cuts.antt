@@ -1,6 +1,6 @@
 -- A text is cut into its tokens and into nothing else. Assumes nothing.
 use Rattle.std.proofs.Common.{◌≡◌, ℕ, ◌+◌, ◌<◌, ◌≤◌, Bool, true, false, cond, ◌&&◌, eqb, ◌⊎◌, List, [], ◌∷◌, ◌++◌, length, Some, None, Option, sym, refl, ap, ◌∙◌, subst, inl, inr, ⊎_elim, arith}
-use Rattle.std.specs.List.{AllByRecursion as All}
+use Rattle.std.specs.List.{AllByRecursion}
 use Rattle.std.proofs.lemmas.List.{nil_from_length}
 use Rattle.std.proofs.lemmas.Bool.{false≢true, both_ways, cases_Bool, and_left, and_right, and_parts, and_cases, eq-eqb, ne_eqb, eqb-true}
 use Rattle.tokens.specs.declared.byte.ByteClass.{ByteClass}
@@ -108,7 +108,7 @@ more_joined k p b w ts e =
     ∙ ap (λ (v : Bool). cond v (token k p (b ∷ w) ∷ ts) (token k p (b ∷ []) ∷ token k (p + 1) w ∷ ts)) (eq-eqb (p + 1) (p + 1) refl)
 
 -- the first token of bytes that begin with one that cannot be longer
-run_tokens : (k : TokenKind) (w rest : List ℕ) (p : ℕ) → 0 < length w → All (λ b. kind_of b ≡ Some k) w → (together k k ≡ false → length w ≡ 1) → Longest k rest → tokens_from p (w ++ rest) ≡ token k p w ∷ tokens_from (p + length w) rest
+run_tokens : (k : TokenKind) (w rest : List ℕ) (p : ℕ) → 0 < length w → AllByRecursion (λ b. kind_of b ≡ Some k) w → (together k k ≡ false → length w ≡ 1) → Longest k rest → tokens_from p (w ++ rest) ≡ token k p w ∷ tokens_from (p + length w) rest
 unfolding tokens_from
 run_tokens k [] rest p some alike alone long = absurd (omega arith)
 run_tokens k (b ∷ []) rest p some alike alone long =
@@ -126,7 +126,7 @@ pub first_token : (k : TokenKind) (w rest : List ℕ) (p : ℕ) → WellFormed k
 first_token k w rest p well long = run_tokens k w rest p well.some well.alike well.alone long
 
 -- separators before the tokens, and separators alone
-pub after_gap : (gap rest : List ℕ) (p : ℕ) → All Separator gap → tokens_from p (gap ++ rest) ≡ tokens_from (p + length gap) rest
+pub after_gap : (gap rest : List ℕ) (p : ℕ) → AllByRecursion Separator gap → tokens_from p (gap ++ rest) ≡ tokens_from (p + length gap) rest
 unfolding tokens_from
 after_gap [] rest p h = let e : p ≡ p + 0 = omega arith in ap (λ n. tokens_from n rest) e
 after_gap (b ∷ gap) rest p h =
@@ -135,7 +135,7 @@ after_gap (b ∷ gap) rest p h =
     ∙ after_gap gap rest (p + 1) h.1
     ∙ ap (λ n. tokens_from n rest) e
 
-pub no_tokens : (text : List ℕ) (p : ℕ) → All Separator text → tokens_from p text ≡ []
+pub no_tokens : (text : List ℕ) (p : ℕ) → AllByRecursion Separator text → tokens_from p text ≡ []
 unfolding tokens_from
 no_tokens [] p h = refl
 no_tokens (b ∷ bs) p h =
@@ -162,12 +162,12 @@ never o k p q = let z : ◌≡◌ {A = ℕ} 0 1 = cc in omega arith
 same_kind : (o : Option TokenKind) (j k : TokenKind) → o ≡ Some j → o ≡ Some k → j ≡ k
 same_kind o j k p q = cc
 
-blank_longest : (k : TokenKind) (text : List ℕ) → All Separator text → Longest k text
+blank_longest : (k : TokenKind) (text : List ℕ) → AllByRecursion Separator text → Longest k text
 blank_longest k [] h = tt
 blank_longest k (b ∷ bs) h = λ e _. never (kind_of b) k (separator_none b h.0) e
 
 -- a token of kind k ends before a gap, or before a token that it does not run into
-pub ends_there : (k l : TokenKind) (gap w rest : List ℕ) → All Separator gap → WellFormed l w → (length gap ≡ 0 → together k l ≡ false) → Longest k (gap ++ (w ++ rest))
+pub ends_there : (k l : TokenKind) (gap w rest : List ℕ) → AllByRecursion Separator gap → WellFormed l w → (length gap ≡ 0 → together k l ≡ false) → Longest k (gap ++ (w ++ rest))
 ends_there k l (b ∷ gap) w rest seps well h = λ e _. never (kind_of b) k (separator_none b seps.0) e
 ends_there k l [] [] rest seps well h = absurd (omega (arith, well.some))
 ends_there k l [] (b ∷ w) rest seps well h =
@@ -196,7 +196,7 @@ module _ (p b : ℕ) (bs : List ℕ) where
         at',
         record {
           some = omega arith;
-          alike = (e, subst (λ (j : TokenKind). All (λ c. kind_of c ≡ Some j) t.bytes) (sym same) well.alike);
+          alike = (e, subst (λ (j : TokenKind). AllByRecursion (λ c. kind_of c ≡ Some j) t.bytes) (sym same) well.alike);
           alone = λ no_run. absurd (both_ways (together k k) no_run runs);
         },
         subst (λ (j : TokenKind). Longest j rest) (sym same) long,

@@ -1,6 +1,6 @@
 -- The first element of a list of which something holds. Assumes nothing.
 use Rattle.std.proofs.Common.{◌≡◌, ℕ, ◌+◌, ◌<◌, ◌≤◌, ◌⊎◌, List, [], ◌∷◌, ◌++◌, length, get_or, take, drop, sym, refl, ap, ◌∙◌, subst, inl, inr, ⊎_elim, append_assoc, arith}
-use Rattle.std.specs.List.{AllByRecursion as All}
+use Rattle.std.specs.List.{AllByRecursion}
 use Rattle.std.proofs.ByRecursion.{All-get_or}
 use Rattle.std.proofs.lemmas.List.{get_or_at, get_or_append_left, length-append, take-append-drop, length-take-le, drop_more}
 use Rattle.std.proofs.lemmas.Bool.{cases_order}
@@ -25,13 +25,13 @@ module _ {X : Type 0} where
   first_one P xs i j x y p q =
       ⊎_elim (λ e. e) (⊎_elim (λ lt. absurd (not_before P xs i j x y p q lt)) (λ lt. absurd (not_before P xs j i y x q p lt))) (cases_order i j)
 
-  pub first_none : (P : X → Type 0) (xs : List X) → All (λ y. P y → ⊥) xs → (i : ℕ) (x : X) → First P xs i x → ⊥
+  pub first_none : (P : X → Type 0) (xs : List X) → AllByRecursion (λ y. P y → ⊥) xs → (i : ℕ) (x : X) → First P xs i x → ⊥
   first_none P xs none i x p =
       let at : get_or xs i x ≡ x = ap (λ (l : List X). get_or l i x) p.nth.split ∙ get_or_at p.nth.earlier x p.nth.later x i p.nth.index in
       All-get_or (λ z. P z → ⊥) xs i x (nth_inside xs i x p.nth) none (subst P (sym at) p.here)
 
   -- the element at i, where none of those before it is one
-  pub first_at : (P : X → Type 0) (xs : List X) (i : ℕ) (d : X) → i < length xs → All (λ y. P y → ⊥) (take i xs) → P (get_or xs i d) → First P xs i (get_or xs i d)
+  pub first_at : (P : X → Type 0) (xs : List X) (i : ℕ) (d : X) → i < length xs → AllByRecursion (λ y. P y → ⊥) (take i xs) → P (get_or xs i d) → First P xs i (get_or xs i d)
   first_at P xs i d lt none here =
       record {
         nth = record { earlier = take i xs; later = drop (i + 1) xs; split = sym (take-append-drop i xs) ∙ ap (λ (l : List X). take i xs ++ l) (drop_more xs i d lt); index = length-take-le i xs (omega arith) };
@@ -47,7 +47,7 @@ module _ {X : Type 0} where
         none = p.none;
       }
 
-  pub first_last : (P : X → Type 0) (xs : List X) (x : X) → All (λ y. P y → ⊥) xs → P x → First P (xs ++ x ∷ []) (length xs) x
+  pub first_last : (P : X → Type 0) (xs : List X) (x : X) → AllByRecursion (λ y. P y → ⊥) xs → P x → First P (xs ++ x ∷ []) (length xs) x
   first_last P xs x none here = record { nth = record { earlier = xs; later = []; split = refl; index = refl }; here = here; none = none }
 
 -- rules in order have one answer

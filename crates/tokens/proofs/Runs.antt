@@ -1,6 +1,6 @@
 -- A run of bytes in a text, found by its two ends, is a token of it.
 use Rattle.std.proofs.Common.{◌≡◌, ℕ, ◌+◌, ◌-◌, ◌<◌, ◌≤◌, Bool, true, false, ◌⊎◌, List, [], ◌∷◌, ◌++◌, length, get_or, take, drop, Some, None, Option, sym, refl, ap, ◌∙◌, subst, inl, inr, ⊎_elim, arith}
-use Rattle.std.specs.List.{AllByRecursion as All}
+use Rattle.std.specs.List.{AllByRecursion}
 use Rattle.std.proofs.ByRecursion.{All-more}
 use Rattle.std.proofs.lemmas.List.{take-append-drop, length-take-le, length-drop, drop-drop, drop_more, drop_all, get_or-drop}
 use Rattle.std.proofs.lemmas.Bool.{both_ways, cases_lt}
@@ -41,15 +41,15 @@ stops c text r h k e =
     (λ end. subst (Longest k) (sym (drop_all r text end)) tt)
     (cases_lt r (length text))
 
-pub alike_none : (P : ℕ → Type 0) (text : List ℕ) (from : ℕ) → All P (take (from - from) (drop from text))
-alike_none P text from = let e : 0 ≡ from - from = omega arith in subst (λ n. All P (take n (drop from text))) e tt
+pub alike_none : (P : ℕ → Type 0) (text : List ℕ) (from : ℕ) → AllByRecursion P (take (from - from) (drop from text))
+alike_none P text from = let e : 0 ≡ from - from = omega arith in subst (λ n. AllByRecursion P (take n (drop from text))) e tt
 
-pub alike_more : (P : ℕ → Type 0) (text : List ℕ) (from end : ℕ) → from ≤ end → end < length text → All P (take (end - from) (drop from text)) → P (get_or text end 0) → All P (take (end + 1 - from) (drop from text))
+pub alike_more : (P : ℕ → Type 0) (text : List ℕ) (from end : ℕ) → from ≤ end → end < length text → AllByRecursion P (take (end - from) (drop from text)) → P (get_or text end 0) → AllByRecursion P (take (end + 1 - from) (drop from text))
 alike_more P text from end h lt all here =
     let on : end - from + 1 ≡ end + 1 - from = omega arith in
     let at : from + (end - from) ≡ end = omega arith in
     let inside : end - from < length (drop from text) = omega (arith, length-drop from text) in
-    subst (λ n. All P (take n (drop from text))) on (All-more P (drop from text) (end - from) 0 inside all (subst P (sym (get_or-drop from text (end - from) 0 ∙ ap (λ i. get_or text i 0) at)) here))
+    subst (λ n. AllByRecursion P (take n (drop from text))) on (All-more P (drop from text) (end - from) 0 inside all (subst P (sym (get_or-drop from text (end - from) 0 ∙ ap (λ i. get_or text i 0) at)) here))
 
 bracket_longest : (k : TokenKind) (rest : List ℕ) → together k k ≡ false → Longest k rest
 bracket_longest k [] e = tt
@@ -57,7 +57,7 @@ bracket_longest k (b ∷ bs) e = λ _ run. both_ways (together k k) e run
 
 module _ (text : List ℕ) (a b : ℕ) (some : a < b) (within : b ≤ length text) where
   -- the run from a to b is the next token
-  pub run_token : (k : TokenKind) → All (λ x. kind_of x ≡ Some k) (take (b - a) (drop a text)) → (together k k ≡ false → b ≡ a + 1) → Longest k (drop b text) → tokens_from a (drop a text) ≡ token k a (take (b - a) (drop a text)) ∷ tokens_from b (drop b text)
+  pub run_token : (k : TokenKind) → AllByRecursion (λ x. kind_of x ≡ Some k) (take (b - a) (drop a text)) → (together k k ≡ false → b ≡ a + 1) → Longest k (drop b text) → tokens_from a (drop a text) ≡ token k a (take (b - a) (drop a text)) ∷ tokens_from b (drop b text)
   run_token k alike alone long =
       let e : a + (b - a) ≡ b = omega arith in
       let split : take (b - a) (drop a text) ++ drop b text ≡ drop a text = ap (λ (l : List ℕ). take (b - a) (drop a text) ++ l) (ap (λ n. drop n text) (sym e) ∙ sym (drop-drop (b - a) a text)) ∙ take-append-drop (b - a) (drop a text) in
@@ -74,7 +74,7 @@ one_front text a lt = let e : a + 1 - a ≡ 1 = omega arith in ap (λ n. take n 
 -- a bracket at a is the next token
 pub bracket_token : (k : TokenKind) (text : List ℕ) (a : ℕ) → a < length text → together k k ≡ false → kind_of (get_or text a 0) ≡ Some k → tokens_from a (drop a text) ≡ token k a (take (a + 1 - a) (drop a text)) ∷ tokens_from (a + 1) (drop (a + 1) text)
 bracket_token k text a lt no_run is =
-    run_token text a (a + 1) (omega arith) (omega arith) k (subst (All (λ x. kind_of x ≡ Some k)) (sym (one_front text a lt)) (is, tt)) (λ _. refl) (bracket_longest k (drop (a + 1) text) no_run)
+    run_token text a (a + 1) (omega arith) (omega arith) k (subst (AllByRecursion (λ x. kind_of x ≡ Some k)) (sym (one_front text a lt)) (is, tt)) (λ _. refl) (bracket_longest k (drop (a + 1) text) no_run)
 
 -- a separator at a is passed over
 pub skipped : (text : List ℕ) (a : ℕ) → a < length text → Separator (get_or text a 0) → tokens_from a (drop a text) ≡ tokens_from (a + 1) (drop (a + 1) text)

@@ -1,6 +1,6 @@
 -- What is spaced cuts into the same tokens, and is no longer than what it was cut from.
 use Rattle.std.proofs.Common.{◌≡◌, ℕ, ◌+◌, ◌<◌, ◌≤◌, Bool, true, false, cond, ◌⊎◌, List, [], ◌∷◌, ◌++◌, map, length, Some, None, codes, Option, sym, refl, ap, ◌∙◌, subst, inl, inr, ⊎_elim, append_assoc, append-nil, arith}
-use Rattle.std.specs.List.{AllByRecursion as All}
+use Rattle.std.specs.List.{AllByRecursion}
 use Rattle.std.proofs.lemmas.List.{length-append, length-map}
 use Rattle.std.proofs.lemmas.Bool.{both_ways}
 use Rattle.tokens.specs.declared.token.TokenKind.{TokenKind}
@@ -12,11 +12,11 @@ use Rattle.tokens.proofs.Cuts.{together_same, ends_there, first_token, after_gap
 abbrev Formed : Lexeme → Type 0
 Formed t = WellFormed t.kind t.bytes
 
-space_separates : (b : Bool) → All Separator (cond b (codes " ") [])
+space_separates : (b : Bool) → AllByRecursion Separator (cond b (codes " ") [])
 space_separates true = (inl refl, tt)
 space_separates false = tt
 
-between_separates : (last : Option TokenKind) (k : TokenKind) → All Separator (between last k)
+between_separates : (last : Option TokenKind) (k : TokenKind) → AllByRecursion Separator (between last k)
 between_separates None k = tt
 between_separates (Some j) k = space_separates (together j k)
 
@@ -25,12 +25,12 @@ no_space true e = absurd (omega arith)
 no_space false e = refl
 
 -- a token ends where the spaced text of the next ones begins
-spaced_longest : (k : TokenKind) (ts : List Lexeme) → All Formed ts → Longest k (spaced_after (Some k) ts)
+spaced_longest : (k : TokenKind) (ts : List Lexeme) → AllByRecursion Formed ts → Longest k (spaced_after (Some k) ts)
 spaced_longest k [] h = tt
 spaced_longest k (t ∷ ts) h =
     ends_there k t.kind (between (Some k) t.kind) t.bytes (spaced_after (Some t.kind) ts) (between_separates (Some k) t.kind) h.0 (no_space (together k t.kind))
 
-cut_spaced : (last : Option TokenKind) (ts : List Lexeme) (p : ℕ) → All Formed ts → map lexeme (tokens_from p (spaced_after last ts)) ≡ ts
+cut_spaced : (last : Option TokenKind) (ts : List Lexeme) (p : ℕ) → AllByRecursion Formed ts → map lexeme (tokens_from p (spaced_after last ts)) ≡ ts
 cut_spaced last [] p h = ap (map lexeme) (no_tokens [] p tt)
 cut_spaced last (t ∷ ts) p h =
     let gap = between last t.kind in
@@ -44,11 +44,11 @@ pub spacing_keeps_tokens : SpacingKeepsTokens
 spacing_keeps_tokens ts h = cut_spaced None ts 0 h
 
 -- the tokens of a text are well formed
-cut_formed : (p : ℕ) (text : List ℕ) (ts : List Placed) → CutInto p text ts → All Formed (map lexeme ts)
+cut_formed : (p : ℕ) (text : List ℕ) (ts : List Placed) → CutInto p text ts → AllByRecursion Formed (map lexeme ts)
 cut_formed p text [] h = tt
 cut_formed p text (t ∷ ts) (gap, rest, split, seps, at, well, long, more) = (well, cut_formed (p + length gap + length t.bytes) rest ts more)
 
-pub formed : (text : List ℕ) → All Formed (lexemes_of text)
+pub formed : (text : List ℕ) → AllByRecursion Formed (lexemes_of text)
 formed text = cut_formed 0 text (tokens_of text) (cut 0 text)
 
 pub respaced_tokens : (text : List ℕ) → lexemes_of (respaced text) ≡ lexemes_of text
@@ -101,7 +101,7 @@ pairs_few [] = omega arith
 pairs_few (t ∷ ts) = omega (arith, closes_one t.kind, pairs_few ts)
 
 -- the tokens are at most as many as the bytes
-spaced_count : (last : Option TokenKind) (ts : List Lexeme) → All Formed ts → length ts ≤ length (spaced_after last ts)
+spaced_count : (last : Option TokenKind) (ts : List Lexeme) → AllByRecursion Formed ts → length ts ≤ length (spaced_after last ts)
 spaced_count last [] h = omega arith
 spaced_count last (t ∷ ts) h =
     let rest = spaced_after (Some t.kind) ts in

@@ -1,6 +1,6 @@
 -- Rules that are tried in order: the first that applies decides the answer.
 use Rattle.std.specs.Prelude.{◌≡◌, ℕ, ◌⊎◌, List, ◌∷◌, ◌++◌, length, Ok, Err, Result}
-use Rattle.std.specs.List.{AllByRecursion as All}
+use Rattle.std.specs.List.{AllByRecursion}
 use Rattle.tokens.specs.declared.fault.Fault.{Fault}
 
 module _ {R : Type 0} where
@@ -34,4 +34,4 @@ pub record Nth {X : Type 0} (xs : List X) (i : ℕ) (x : X) : Type 0 where
 pub record First {X : Type 0} (P : X → Type 0) (xs : List X) (i : ℕ) (x : X) : Type 0 where
   pub nth : Nth xs i x
   pub here : P x
-  pub none : All (λ y. P y → ⊥) nth.earlier
+  pub none : AllByRecursion (λ y. P y → ⊥) nth.earlier

@@ -1,6 +1,6 @@
 -- The limits of an expression as a whole.
 use Rattle.std.specs.Prelude.{◌≡◌, ℕ, ◌<◌, ◌≤◌, List, length, Some, None, Option, Result}
-use Rattle.std.specs.List.{AllByRecursion as All}
+use Rattle.std.specs.List.{AllByRecursion}
 use Rattle.tokens.specs.declared.byte.ByteClass.TheVariants as C
 use Rattle.tokens.specs.declared.fault.Fault.{Fault}
 use Rattle.tokens.specs.declared.fault.FaultKind.TheVariants.{ExpressionTooLong, UnlawfulByte, TooManyTokens, WordTooLong}
@@ -30,7 +30,7 @@ TokenTooMany text p = (t : Placed) × Nth (tokens_of text) 1024 t × (p ≡ t.pl
 
 -- the place of the first word of over 16 bytes among the tokens, or that there is none
 abbrev pub LongWordIn : List Placed → Option ℕ → Type 0
-LongWordIn ts None = All (λ t. LongWord t → ⊥) ts
+LongWordIn ts None = AllByRecursion (λ t. LongWord t → ⊥) ts
 LongWordIn ts (Some p) = (i : ℕ) × (t : Placed) × First LongWord ts i t × (p ≡ t.place)
 
 abbrev pub FirstLongWord : List ℕ → ℕ → Type 0
@@ -51,6 +51,6 @@ Limits text =
 -- the expression passes none of them
 pub record WithinLimits (text : List ℕ) : Type 0 where
   pub bytes : length text ≤ 4096
-  pub lawful : All Lawful text
+  pub lawful : AllByRecursion Lawful text
   pub tokens : length (tokens_of text) ≤ 1024
   pub words : LongWordIn (tokens_of text) None

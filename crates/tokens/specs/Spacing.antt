@@ -1,6 +1,6 @@
 -- The spacing rule: one space stands between two tokens exactly when both are words or both are symbols.
 use Rattle.std.specs.Prelude.{◌≡◌, ℕ, ◌+◌, cond, List, [], ◌∷◌, ◌++◌, map, Some, None, codes, Option}
-use Rattle.std.specs.List.{AllByRecursion as All}
+use Rattle.std.specs.List.{AllByRecursion}
 use Rattle.tokens.specs.declared.token.TokenKind.{TokenKind}
 use Rattle.tokens.specs.declared.token.TokenKind.TheVariants.{Word, Symbol, Open, Close}
 use Rattle.tokens.specs.Tokens.{Lexeme, lexeme, tokens_of, together, WellFormed}
@@ -27,7 +27,7 @@ respaced text = spaced (lexemes_of text)
 
 -- The law: cutting the spaced text of well-formed tokens gives those tokens back.
 abbrev pub SpacingKeepsTokens : Type 0
-SpacingKeepsTokens = (ts : List Lexeme) → All (λ t. WellFormed t.kind t.bytes) ts → lexemes_of (spaced ts) ≡ ts
+SpacingKeepsTokens = (ts : List Lexeme) → AllByRecursion (λ t. WellFormed t.kind t.bytes) ts → lexemes_of (spaced ts) ≡ ts
 
 -- the pairs of brackets of a text: its closing brackets
 abbrev pub closes : TokenKind → ℕ

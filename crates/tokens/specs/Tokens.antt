@@ -1,6 +1,6 @@
 -- What the tokens of a text are: its longest runs of word bytes and of symbol bytes, and each bracket by itself.
 use Rattle.std.specs.Prelude.{◌≡◌, ℕ, ◌+◌, ◌<◌, Bool, true, false, cond, ◌&&◌, ◌||◌, ◌⊎◌, List, [], ◌∷◌, ◌++◌, map, length, Some, None, Option, ◌==◌, ◌≢◌}
-use Rattle.std.specs.List.{AllByRecursion as All}
+use Rattle.std.specs.List.{AllByRecursion}
 use Rattle.tokens.specs.declared.byte.ByteClass.{ByteClass}
 use Rattle.tokens.specs.declared.byte.ByteClass.TheVariants as C
 use Rattle.tokens.specs.declared.token.Token.{Token}
@@ -86,7 +86,7 @@ Separator b = (class_of b ≡ C.Space) ⊎ (class_of b ≡ C.Unlawful)
 -- the bytes are one token of kind k: all of that kind, and just one if it is a bracket
 pub record WellFormed (k : TokenKind) (bytes : List ℕ) : Type 0 where
   pub some : 0 < length bytes
-  pub alike : All (λ b. kind_of b ≡ Some k) bytes
+  pub alike : AllByRecursion (λ b. kind_of b ≡ Some k) bytes
   pub alone : together k k ≡ false → length bytes ≡ 1
 
 -- a token of kind k that ends before these bytes cannot be longer
@@ -97,10 +97,10 @@ Longest k (b ∷ bs) = kind_of b ≡ Some k → together k k ≢ true
 -- The text, from place p on, is cut into the tokens: they come in order, each well formed, as long as it can be,
 -- and at its place, and before, between and after them are separators only.
 abbrev pub CutInto : ℕ → List ℕ → List Placed → Type 0
-CutInto p text [] = All Separator text
+CutInto p text [] = AllByRecursion Separator text
 CutInto p text (t ∷ ts) =
     (gap : List ℕ) × (rest : List ℕ)
-    × (text ≡ gap ++ (t.bytes ++ rest)) × All Separator gap × (t.place ≡ p + length gap)
+    × (text ≡ gap ++ (t.bytes ++ rest)) × AllByRecursion Separator gap × (t.place ≡ p + length gap)
     × WellFormed t.kind t.bytes × Longest t.kind rest × CutInto (p + length gap + length t.bytes) rest ts
 
 -- the tokens of a text are what it is cut into, and it is cut into nothing else

@@ -1,6 +1,6 @@
 // Cutting: how the cutter goes on from token to token.
 ghost use Rattle.std.specs.Prelude.{◌≡◌, ℕ, ◌+◌, ◌-◌, ◌<◌, ◌≤◌, ◌∷◌, length, take, drop, Some};
-ghost use Rattle.std.specs.List.{AllByRecursion as All};
+ghost use Rattle.std.specs.List.{AllByRecursion};
 ghost use Rattle.tokens.specs.Tokens.{kind_in, kind_of, Longest, tokens_of, Tokens};
 ghost use Rattle.tokens.specs.Cutters.{ahead, Next};
 ghost use Rattle.tokens.specs.declared.token.TokenKind.{TokenKind};
@@ -25,7 +25,7 @@ fn run_end(text: &[u8], from: usize, class: ByteClass) -> usize
     requires { from ≤ length text.now }
     ensures forward { from ≤ result }
     ensures within { result ≤ length text.now }
-    ensures alike { All (λ b. kind_of b ≡ kind_in class) (take (result - from) (drop from text.now)) }
+    ensures alike { AllByRecursion (λ b. kind_of b ≡ kind_in class) (take (result - from) (drop from text.now)) }
     ensures longest { (k : TokenKind) → kind_in class ≡ Some k → Longest k (drop result text.now) }
 {
     let mut end = from;

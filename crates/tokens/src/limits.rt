@@ -1,6 +1,6 @@
 // The limits of an expression as a whole, which are looked at before it is read.
 ghost use Rattle.std.specs.Prelude.{◌≡◌, ◌<◌, ◌≤◌, List, [], ◌∷◌, ◌++◌, length, None, MatchBool, MatchResult, OnOk};
-ghost use Rattle.std.specs.List.{AllByRecursion as All};
+ghost use Rattle.std.specs.List.{AllByRecursion};
 ghost use Rattle.tokens.specs.Faults.{fault};
 ghost use Rattle.tokens.specs.InOrder.{Only};
 ghost use Rattle.tokens.specs.Limits.{Lawful, FirstUnlawful, LongWord, LongWordIn, TokenLimits, Limits, WithinLimits};
@@ -22,7 +22,7 @@ pub const MAX_WORD_BYTES: usize = 16;
 
 // Refuses an unlawful byte, at its place: the first there is.
 fn check_bytes(text: &[u8]) -> Result<(), Fault>
-    ensures { MatchResult result (λ _. All Lawful text.now) (λ f. FirstUnlawful text.now f.place × (f ≡ fault FaultKind.UnlawfulByte f.place)) }
+    ensures { MatchResult result (λ _. AllByRecursion Lawful text.now) (λ f. FirstUnlawful text.now f.place × (f ≡ fault FaultKind.UnlawfulByte f.place)) }
 {
     for (place, byte) in text.iter().enumerate() {
         if ByteClass::of(*byte) == ByteClass::Unlawful {

@@ -1,5 +1,5 @@
 use Rattle.std.proofs.Common.{◌≡◌, ◌+◌, ◌*◌, ◌≤◌, true, length, get_or, take, sym, ap, ◌∙◌, subst, arith}
-use Rattle.std.specs.List.{AllByRecursion as All}
+use Rattle.std.specs.List.{AllByRecursion}
 use Rattle.std.proofs.ByRecursion.{All-get_or, All-more}
 use Rattle.std.proofs.lemmas.List.{take_more, take_all}
 use Rattle.std.proofs.lemmas.Bool.{both_ways, eqb-false}
@@ -38,6 +38,6 @@ returns c =
     record {
       some = let ne = eqb-false (length c.args.digits.now) 0 (sym c.if-is_empty.ensures) in omega arith;
       few = c.if-digits-gt-MAX_DIGITS.false;
-      each = subst (All (λ b. is_digit b ≡ true)) all c.loop-digit.invariant.1;
+      each = subst (AllByRecursion (λ b. is_digit b ≡ true)) all c.loop-digit.invariant.1;
       value = c.loop-digit.invariant.0 ∙ ap decimal all;
     }

@@ -1,5 +1,5 @@
 use Rattle.std.proofs.Common.{subst}
-use Rattle.std.specs.List.{AllByRecursion as All}
+use Rattle.std.specs.List.{AllByRecursion}
 use Rattle.std.proofs.ByRecursion.{All-more}
 use Rattle.std.proofs.lemmas.List.{take_all}
 use Rattle.rack.proofs.Words.{IsZero, not_all}
@@ -12,4 +12,4 @@ pub loop-byte-preserved : goal.loop-byte-preserved
 loop-byte-preserved c = All-more IsZero c.args.bytes.now c.loop-byte.byte-index 0 c.loop-byte-test.true c.loop-byte.invariant c.if-byte-ne0.false
 
 pub returns : goal.returns
-returns c = subst (All IsZero) (take_all c.loop-byte.byte-index c.args.bytes.now c.loop-byte-test.false) c.loop-byte.invariant
+returns c = subst (AllByRecursion IsZero) (take_all c.loop-byte.byte-index c.args.bytes.now c.loop-byte-test.false) c.loop-byte.invariant

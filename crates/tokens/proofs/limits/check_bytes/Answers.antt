@@ -1,5 +1,5 @@
 use Rattle.std.proofs.Common.{◌≡◌, sym, refl, ◌∙◌, subst, rules}
-use Rattle.std.specs.List.{AllByRecursion as All}
+use Rattle.std.specs.List.{AllByRecursion}
 use Rattle.std.proofs.ByRecursion.{All-more}
 use Rattle.std.proofs.lemmas.List.{take_all}
 use Rattle.tokens.specs.declared.byte.ByteClass.TheVariants.{Unlawful}
@@ -18,4 +18,4 @@ loop-place-preserved c =
     All-more Lawful c.args.text.now c.loop-place.place 0 c.loop-place-test.true c.loop-place.invariant (λ is. other (c.of.ensures ∙ is))
 
 pub returns : goal.returns
-returns c = subst (All Lawful) (take_all c.loop-place.place c.args.text.now c.loop-place-test.false) c.loop-place.invariant
+returns c = subst (AllByRecursion Lawful) (take_all c.loop-place.place c.args.text.now c.loop-place-test.false) c.loop-place.invariant
