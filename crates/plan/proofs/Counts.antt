@@ -1,6 +1,6 @@
 -- The lines of a plan among the lines of its input. Assumes nothing.
-use Rattle.std.proofs.Common.{◌≡◌, ℕ, zero, suc, ◌+◌, ◌-◌, ◌<◌, ◌≤◌, Bool, true, false, cond, List, [], ◌∷◌, ◌++◌, take, sym, refl, ap, ◌∙◌, subst, arith}
-use Rattle.plan.specs.Plans.{begins_tail, up_to_tail, room_for}
+use Rattle.std.proofs.Common.{◌≡◌, ℕ, zero, suc, ◌+◌, ◌-◌, ◌<◌, ◌≤◌, Bool, true, false, cond, List, [], ◌∷◌, take, refl, ap, ◌∙◌, arith}
+use Rattle.plan.specs.Plans.{begins_tail, up_to_tail}
 
 take_none : (k : ℕ) → take {A = List ℕ} k [] ≡ []
 take_none zero = refl

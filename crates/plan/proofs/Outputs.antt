@@ -1,5 +1,5 @@
 -- A line comes out in one way, and so does an input; what the loop over the lines keeps.
-use Rattle.std.proofs.Common.{◌≡◌, ℕ, ◌+◌, ◌*◌, ◌<◌, ◌≤◌, Bool, true, false, cond, ◌⊎◌, List, [], ◌∷◌, ◌++◌, length, Ok, Err, Result, sym, refl, ap, ◌∙◌, subst, inl, inr, ⊎_elim, append_assoc, append-nil, arith}
+use Rattle.std.proofs.Common.{◌≡◌, ℕ, ◌+◌, ◌*◌, ◌≤◌, Bool, true, false, cond, List, [], ◌∷◌, ◌++◌, length, Ok, Err, Result, sym, refl, ap, ◌∙◌, subst, ⊎_elim, append_assoc, append-nil, arith}
 use Rattle.std.specs.List.{flat_map}
 use Rattle.std.proofs.lemmas.List.{length-append, length_push, flat_map_more}
 use Rattle.tokens.specs.declared.fault.Fault.{Fault}
@@ -11,7 +11,7 @@ use Rattle.tokens.proofs.Spaces.{pairs_within}
 use Rattle.plan.specs.declared.outcome.Outcome.{Outcome}
 use Rattle.plan.specs.declared.outcome.Outcome.TheVariants.{Added, Refused}
 use Rattle.plan.specs.Plans.{begins_tail, up_to_tail, LineFault, ComesOut, Entry, bytes_of, ComesOutAs, EachComesOut, line_in, pairs_in, lines_added, pairs_added, PlanOutput, room_for}
-use Rattle.plan.specs.PlanLines.{IsPlanLine, NoPlanLine}
+use Rattle.plan.specs.PlanLines.{IsPlanLine}
 use Rattle.plan.specs.Reports.{line_end, fault_line, tail_line}
 use Rattle.plan.proofs.Parts.{plan_line_one}
 

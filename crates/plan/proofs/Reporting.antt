@@ -1,5 +1,5 @@
 -- The bytes of fault lines and tails, put together field by field.
-use Rattle.std.proofs.Common.{◌≡◌, ℕ, ◌+◌, ◌^◌, ◌<◌, ◌≤◌, List, [], ◌∷◌, ◌++◌, length, decimal, sym, refl, ap, ◌∙◌, append_assoc, arith, lit<}
+use Rattle.std.proofs.Common.{◌≡◌, ℕ, ◌^◌, ◌<◌, ◌≤◌, List, [], ◌∷◌, ◌++◌, length, decimal, append_assoc, arith, lit<}
 use Rattle.std.proofs.lemmas.Fmt.{length-decimal-le}
 
 pub fault_bytes : (out : List ℕ) (letter : ℕ) (number line place : List ℕ) → ((((out ++ 33 ∷ []) ++ letter ∷ number) ++ 32 ∷ line) ++ 32 ∷ place) ++ 10 ∷ [] ≡ out ++ (33 ∷ (letter ∷ (number ++ (32 ∷ (line ++ (32 ∷ (place ++ 10 ∷ [])))))))

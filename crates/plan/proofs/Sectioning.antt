@@ -1,17 +1,15 @@
 -- Notations read line by line: one step at a time, and with one answer.
-use Rattle.std.proofs.Common.{◌≡◌, ℕ, ◌+◌, ◌≤◌, ◌⊎◌, List, [], ◌∷◌, Ok, Err, codes, Result, sym, refl, ap, ◌∙◌, subst, inl, inr, ⊎_elim, arith}
+use Rattle.std.proofs.Common.{◌≡◌, ℕ, ◌+◌, ◌⊎◌, List, [], ◌∷◌, Ok, Err, codes, sym, refl, ap, ◌∙◌, subst, inl, inr, ⊎_elim, arith}
 use Rattle.tokens.specs.declared.fault.Fault.{Fault}
 use Rattle.tokens.specs.InOrder.{If, Only}
 use Rattle.tokens.proofs.Firsts.{if_one}
-use Rattle.notation.specs.declared.form.Form.{Form}
 use Rattle.notation.specs.Declarations.{Answer, Declares, Added, extended}
-use Rattle.notation.specs.Lines.{Said, said_op, word_of}
+use Rattle.notation.specs.Lines.{Said, said_op}
 use Rattle.notation.specs.Rows.{ladder_table}
 use Rattle.notation.specs.Tables.{Table}
 use Rattle.notation.proofs.Lines.{word_one}
 use Rattle.notation.proofs.Rules.{declares_one}
-use Rattle.plan.specs.declared.input_fault.InputFault.{InputFault}
-use Rattle.plan.specs.Sections.{Section, section, Sectioned, fault_at_line, malformed, empty_table, Declarations, Notation}
+use Rattle.plan.specs.Sections.{section, Sectioned, fault_at_line, malformed, empty_table, Declarations, Notation}
 
 -- one line of declarations
 module _ (t : Table) (n : ℕ) (ls : List (List ℕ)) (l : List ℕ) (rest : List (List ℕ)) (next : ls ≡ l ∷ rest) where

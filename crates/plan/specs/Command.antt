@@ -1,7 +1,5 @@
 -- What the command answers to its whole input: two notations, and then a plan.
-use Rattle.std.specs.Prelude.{◌≡◌, ℕ, List, Ok, Err, Result}
-use Rattle.notation.specs.Tables.{Table}
-use Rattle.plan.specs.declared.input_fault.InputFault.{InputFault}
+use Rattle.std.specs.Prelude.{◌≡◌, ℕ, List, Ok, Err}
 use Rattle.plan.specs.InputLines.{counted_lines}
 use Rattle.plan.specs.Plans.{up_to_tail, PlanOutput}
 use Rattle.plan.specs.Reports.{fault_line}

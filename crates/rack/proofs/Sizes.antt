@@ -1,11 +1,11 @@
 -- A tree has no more nodes than its text has tokens, since each node has a token of its own.
-use Rattle.std.proofs.Common.{◌≡◌, ℕ, ◌+◌, ◌≤◌, List, [], ◌∷◌, length, ap, arith}
+use Rattle.std.proofs.Common.{◌≤◌, [], ◌∷◌, length, ap, arith}
 use Rattle.std.proofs.lemmas.List.{length-append, length-map}
 use Rattle.tokens.specs.Tokens.{lexeme, tokens_of}
 use Rattle.notation.specs.Tables.{Table}
-use Rattle.grammar.specs.Trees.{Tree, Bracketed, erase}
+use Rattle.grammar.specs.Trees.{Bracketed, erase}
 use Rattle.grammar.specs.Trees.Bracketed.{named, pair, prefixed, postfixed, infixed}
-use Rattle.grammar.specs.Reading.{Reads, lexemes, sign_of, closing}
+use Rattle.grammar.specs.Reading.{lexemes, sign_of, closing}
 use Rattle.rack.specs.Nodes.{size}
 use Rattle.rack.specs.Sizes.{NoMoreNodesThanTokens}
 

@@ -3,7 +3,6 @@ use Rattle.std.specs.Prelude.{◌≡◌, ℕ, ◌+◌, ◌-◌, ◌<◌, ◌≤�
 use Rattle.grammar.specs.Trees.{Tree}
 use Rattle.grammar.specs.Trees.Tree.{name, one, two}
 use Rattle.rack.specs.declared.name.Name.{Name}
-use Rattle.rack.specs.declared.node.Item.{Item}
 use Rattle.rack.specs.declared.node.Item.TheVariants as I
 use Rattle.rack.specs.declared.node.Node.{Node}
 

@@ -1,5 +1,5 @@
 -- Two calls of Read with the same arguments answer the same and leave the same.
-use Rattle.std.proofs.Common.{◌≡◌, ℕ, ◌+◌, ◌-◌, ◌<◌, ◌≤◌, List, length, get_or, Ok, Err, Result, sym, refl, ap, ◌∙◌, subst, ⊎_elim, arith}
+use Rattle.std.proofs.Common.{◌≡◌, ℕ, ◌+◌, ◌-◌, ◌<◌, List, length, get_or, Ok, Err, Result, sym, ap, ◌∙◌, subst, ⊎_elim, arith}
 use Rattle.std.proofs.lemmas.List.{get_or_default}
 use Rattle.std.proofs.lemmas.Bool.{cases_lt}
 use Rattle.tokens.specs.declared.fault.Fault.{Fault}
@@ -16,9 +16,9 @@ use Rattle.grammar.specs.Refusals.{answer, Answered}
 use Rattle.grammar.proofs.Uniqueness.{at_most_one_tree}
 use Rattle.grammar.proofs.Verdicts.{one_verdict_at_most}
 use Rattle.rack.specs.declared.node.Node.{Node}
-use Rattle.rack.specs.Nodes.{size, blank, room, LiesFrom, SameBelow}
+use Rattle.rack.specs.Nodes.{size, blank, LiesFrom, SameBelow}
 use Rattle.reading.specs.Outside.{SameOutside}
-use Rattle.reading.specs.Readings.{NoRoom, Outcome, TreeAdded, NothingAdded, Leaves, ReadsInto, OnlyReading}
+use Rattle.reading.specs.Readings.{NoRoom, Outcome, Leaves, ReadsInto, OnlyReading}
 
 module _ (t : Table) (lawful : LawfulTable t) (text : List ℕ) (rack : List Node) (fill : ℕ) where
   -- a text comes to one thing

@@ -1,14 +1,14 @@
 -- What the loop over the tokens keeps, and what it comes to.
-use Rattle.std.proofs.Common.{◌≡◌, ℕ, ◌+◌, ◌^◌, ◌<◌, ◌≤◌, List, [], ◌∷◌, ◌++◌, map, length, Some, None, Ok, Err, Option, sym, refl, ap, ◌∙◌, subst, append_assoc, append-nil, arith}
+use Rattle.std.proofs.Common.{◌≡◌, ℕ, ◌+◌, ◌^◌, ◌<◌, ◌≤◌, List, [], ◌∷◌, ◌++◌, map, length, Some, None, Err, Option, sym, refl, ap, ◌∙◌, subst, append_assoc, append-nil, arith}
 use Rattle.std.specs.List.{AllByRecursion}
 use Rattle.std.proofs.lemmas.List.{length-append, length-map, map_push}
 use Rattle.tokens.specs.Faults.{fault}
-use Rattle.tokens.specs.Limits.{Lawful as LawfulByte, WithinLimits}
+use Rattle.tokens.specs.Limits.{Lawful as LawfulByte}
 use Rattle.tokens.specs.Spacing.{lexemes_of}
 use Rattle.tokens.specs.Tokens.{Lexeme, Placed, lexeme, tokens_of}
 use Rattle.notation.specs.Tables.{Table, LawfulTable}
 use Rattle.grammar.specs.declared.due.Due.{Due}
-use Rattle.grammar.specs.declared.due.Due.TheVariants.{Operand, Operator}
+use Rattle.grammar.specs.declared.due.Due.TheVariants.{Operand}
 use Rattle.grammar.specs.Trees.{Tree, Bracketed, erase}
 use Rattle.grammar.specs.Reading.{Reads}
 use Rattle.grammar.specs.Machine as M

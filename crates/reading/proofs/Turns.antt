@@ -1,5 +1,5 @@
 -- One turn of the reader's loops is one step of the machine in the rack. Assumes nothing.
-use Rattle.std.proofs.Common.{◌≡◌, ℕ, ◌+◌, List, [], ◌∷◌, length, Some, None, Option, refl, ap, ◌∙◌, arith}
+use Rattle.std.proofs.Common.{◌≡◌, ℕ, ◌+◌, List, [], ◌∷◌, length, Some, None, refl, ap, ◌∙◌, arith}
 use Rattle.notation.specs.Operators.{Op}
 use Rattle.notation.specs.Tables.{Table}
 use Rattle.grammar.specs.declared.taker.Taker.{Taker}
@@ -10,7 +10,7 @@ use Rattle.rack.specs.declared.node.Node.{Node}
 use Rattle.reading.specs.declared.reader.Pending.{Pending}
 use Rattle.reading.specs.declared.reader.Pending.TheVariants as P
 use Rattle.reading.specs.Waiting.{rest, last_function}
-use Rattle.reading.specs.Yard.{Site, site, decided, covered, settled, unwound}
+use Rattle.reading.specs.Yard.{site, decided, covered, settled, unwound}
 
 -- where an operator is on top, one thing less waits below it
 pub one_less : (k : List Pending) (f : ℕ) → last_function k ≡ Some f → length k ≡ length (rest k) + 1

@@ -1,14 +1,13 @@
 -- What the checks of an expression keep from turn to turn, and that they have one answer.
-use Rattle.std.proofs.Common.{◌≡◌, ℕ, ◌+◌, ◌<◌, ◌≤◌, ◌⊎◌, List, [], ◌∷◌, ◌++◌, length, get_or, take, Some, None, Ok, Err, Option, Result, sym, refl, ap, ◌∙◌, subst, inl, inr, ⊎_elim, append_assoc, append-nil, arith}
+use Rattle.std.proofs.Common.{◌≡◌, ℕ, ◌+◌, ◌<◌, ◌≤◌, List, [], ◌∷◌, ◌++◌, length, get_or, take, Some, None, Ok, Err, Option, Result, sym, refl, ap, ◌∙◌, subst, inl, inr, append_assoc, append-nil, arith}
 use Rattle.std.specs.List.{AllByRecursion}
 use Rattle.std.specs.Option.{option_or}
 use Rattle.std.proofs.ByRecursion.{All-push}
 use Rattle.std.proofs.lemmas.List.{length_push}
 use Rattle.tokens.specs.declared.fault.Fault.{Fault}
-use Rattle.tokens.specs.declared.fault.FaultKind.{FaultKind}
 use Rattle.tokens.specs.declared.fault.FaultKind.TheVariants.{ExpressionTooLong, UnlawfulByte, TooManyTokens, WordTooLong}
 use Rattle.tokens.specs.Faults.{fault}
-use Rattle.tokens.specs.InOrder.{IfSome, Only, Refused, Accepted, Nth, First}
+use Rattle.tokens.specs.InOrder.{IfSome, Only, Refused, Accepted, Nth}
 use Rattle.tokens.specs.Limits.{Unlawful, Lawful, LongWord, FirstUnlawful, TokenTooMany, LongWordIn, FirstLongWord, TokenLimits, Limits, WithinLimits}
 use Rattle.tokens.specs.Tokens.{Placed, tokens_of}
 use Rattle.tokens.proofs.Firsts.{nth_one, nth_inside, first_one, first_none, first_at, first_front, first_last, if_one, if_some_one}

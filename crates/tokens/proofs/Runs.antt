@@ -1,5 +1,5 @@
 -- A run of bytes in a text, found by its two ends, is a token of it.
-use Rattle.std.proofs.Common.{◌≡◌, ℕ, ◌+◌, ◌-◌, ◌<◌, ◌≤◌, Bool, true, false, ◌⊎◌, List, [], ◌∷◌, ◌++◌, length, get_or, take, drop, Some, None, Option, sym, refl, ap, ◌∙◌, subst, inl, inr, ⊎_elim, arith}
+use Rattle.std.proofs.Common.{◌≡◌, ℕ, ◌+◌, ◌-◌, ◌<◌, ◌≤◌, true, false, List, [], ◌∷◌, ◌++◌, length, get_or, take, drop, Some, sym, refl, ap, ◌∙◌, subst, ⊎_elim, arith}
 use Rattle.std.specs.List.{AllByRecursion}
 use Rattle.std.proofs.ByRecursion.{All-more}
 use Rattle.std.proofs.lemmas.List.{take-append-drop, length-take-le, length-drop, drop-drop, drop_more, drop_all, get_or-drop}
@@ -9,7 +9,7 @@ use Rattle.tokens.specs.declared.byte.ByteClass.TheVariants as C
 use Rattle.tokens.specs.declared.token.TokenKind.{TokenKind}
 use Rattle.tokens.specs.declared.token.TokenKind.TheVariants.{Word, Symbol, Open, Close}
 use Rattle.tokens.specs.Bytes.{class_of}
-use Rattle.tokens.specs.Tokens.{Placed, kind_in, kind_of, together, tokens_from, Separator, WellFormed, Longest}
+use Rattle.tokens.specs.Tokens.{kind_in, kind_of, together, tokens_from, Separator, Longest}
 use Rattle.tokens.proofs.Cuts.{token, first_token, after_gap, no_tokens}
 
 -- the class of the bytes of a kind

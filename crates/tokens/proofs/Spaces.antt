@@ -1,12 +1,11 @@
 -- What is spaced cuts into the same tokens, and is no longer than what it was cut from.
-use Rattle.std.proofs.Common.{◌≡◌, ℕ, ◌+◌, ◌<◌, ◌≤◌, Bool, true, false, cond, ◌⊎◌, List, [], ◌∷◌, ◌++◌, map, length, Some, None, codes, Option, sym, refl, ap, ◌∙◌, subst, inl, inr, ⊎_elim, append_assoc, append-nil, arith}
+use Rattle.std.proofs.Common.{◌≡◌, ℕ, ◌+◌, ◌<◌, ◌≤◌, Bool, true, false, cond, List, [], ◌∷◌, ◌++◌, map, length, Some, None, codes, Option, sym, refl, ap, ◌∙◌, subst, inl, append_assoc, arith}
 use Rattle.std.specs.List.{AllByRecursion}
 use Rattle.std.proofs.lemmas.List.{length-append, length-map}
-use Rattle.std.proofs.lemmas.Bool.{both_ways}
 use Rattle.tokens.specs.declared.token.TokenKind.{TokenKind}
 use Rattle.tokens.specs.declared.token.TokenKind.TheVariants.{Word, Symbol, Open, Close}
-use Rattle.tokens.specs.Tokens.{Lexeme, Placed, lexeme, kind_of, together, tokens_from, tokens_of, Separator, WellFormed, Longest, CutInto}
-use Rattle.tokens.specs.Spacing.{between, spaced_after, spaced, lexemes_of, respaced, SpacingKeepsTokens, closes, pairs_among, pairs_of}
+use Rattle.tokens.specs.Tokens.{Lexeme, Placed, lexeme, together, tokens_from, tokens_of, Separator, WellFormed, Longest, CutInto}
+use Rattle.tokens.specs.Spacing.{between, spaced_after, lexemes_of, respaced, SpacingKeepsTokens, closes, pairs_among, pairs_of}
 use Rattle.tokens.proofs.Cuts.{together_same, ends_there, first_token, after_gap, no_tokens, cut}
 
 abbrev Formed : Lexeme → Type 0

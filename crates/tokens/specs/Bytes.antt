@@ -1,5 +1,5 @@
 -- The bytes of an expression, by class.
-use Rattle.std.specs.Prelude.{ℕ, Bool, true, false, cond, ◌&&◌, ◌||◌, List, [], ◌∷◌, codes, ◌==◌, nat_le}
+use Rattle.std.specs.Prelude.{ℕ, Bool, false, cond, ◌&&◌, ◌||◌, List, [], ◌∷◌, codes, ◌==◌, nat_le}
 use Rattle.tokens.specs.declared.byte.ByteClass.{ByteClass}
 use Rattle.tokens.specs.declared.byte.ByteClass.TheVariants.{Word, Symbol, Open, Close, Space, Unlawful}
 

@@ -1,10 +1,10 @@
-use Rattle.std.proofs.Common.{◌≡◌, ℕ, ◌+◌, ◌≤◌, cond, List, [], ◌++◌, is_ok, IfOk, Ok, Err, vec_items, vec_len, vec_capacity, Result, sym, refl, ap, ◌∙◌, subst, append-nil}
+use Rattle.std.proofs.Common.{◌≡◌, ℕ, cond, List, [], ◌++◌, is_ok, IfOk, Ok, Err, Result, sym, ◌∙◌, append-nil}
 use Rattle.std.specs.declared.alloc.AllocError.{AllocError}
 use Rattle.std.proofs.lemmas.Result.{IfOk-weaker}
 use Rattle.plan.specs.Command.{Output}
 use Rattle.plan.specs.InputLines.{counted_lines}
 use Rattle.plan.specs.NumberedAhead.{numbered_ahead}
-use Rattle.plan.specs.Plans.{up_to_tail, PlanOutput, room_for}
+use Rattle.plan.specs.Plans.{up_to_tail, PlanOutput}
 use Rattle.plan.specs.Reports.{fault_line}
 use Rattle.plan.proofs.Outputs.{room_some}
 use Rattle.plan.proofs.Whole.{whole_plan, whole_refused, plan_room, less_room}

@@ -1,13 +1,11 @@
-use Rattle.std.proofs.Common.{◌≡◌, ℕ, ◌+◌, ◌≤◌, true, cond, List, [], ◌++◌, length, is_ok, IfOk, Ok, Err, vec_items, vec_len, vec_capacity, Result, sym, refl, ap, ◌∙◌, subst, arith}
+use Rattle.std.proofs.Common.{◌≡◌, ℕ, ◌+◌, ◌≤◌, cond, List, ◌++◌, length, is_ok, IfOk, Ok, Err, vec_items, vec_len, vec_capacity, Result, sym, ap, ◌∙◌, subst, arith}
 use Rattle.std.specs.declared.alloc.AllocError.{AllocError}
 use Rattle.std.proofs.lemmas.List.{length-append}
 use Rattle.std.proofs.lemmas.Result.{err_from_is_err_and}
 use Rattle.std.proofs.lemmas.Bool.{false≢true}
-use Rattle.plan.specs.declared.plan_lines.PlanLines.{PlanLines}
 use Rattle.plan.specs.NumberedAhead.{numbered_ahead}
 use Rattle.plan.specs.Plans.{ComesOut, up_to_tail, PlanOutput, room_for}
 use Rattle.plan.specs.PlanLinesAhead.{plan_ahead, plan_count}
-use Rattle.plan.specs.Reports.{tail_line}
 use Rattle.plan.proofs.Outputs.{Sofar, sofar_none, sofar_more, sofar_end, line_room, tail_room, one_line, few_pairs}
 use Rattle.plan.proofs.command.translate_plan.Goals as goal
 use Rattle.plan.proofs.command.translate_plan.Goals.{In_ok-outcome}

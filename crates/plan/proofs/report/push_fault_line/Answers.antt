@@ -1,4 +1,4 @@
-use Rattle.std.proofs.Common.{◌≡◌, ℕ, List, ◌∷◌, ◌++◌, vec_items, decimal, sym, refl, ap, ◌∙◌, arith}
+use Rattle.std.proofs.Common.{vec_items, decimal, refl, arith}
 use Rattle.tokens.specs.Faults.{letter_of, number_of}
 use Rattle.plan.proofs.Reporting.{fault_bytes}
 use Rattle.plan.proofs.report.push_fault_line.Goals as goal

@@ -1,4 +1,4 @@
-use Rattle.std.proofs.Common.{◌≡◌, vec_items, decimal, sym, refl, ap, ◌∙◌, arith}
+use Rattle.std.proofs.Common.{vec_items, decimal, refl, arith}
 use Rattle.plan.proofs.Reporting.{tail_bytes}
 use Rattle.plan.proofs.report.push_tail.Goals as goal
 

@@ -1,4 +1,4 @@
-use Rattle.std.proofs.Common.{◌≡◌, ℕ, Bool, true, false, List, Decides, MatchBool, refl}
+use Rattle.std.proofs.Common.{◌≡◌, Bool, true, false, Decides, MatchBool, refl}
 use Rattle.std.proofs.lemmas.Slice.Eq.{slice_eq-Decides}
 use Rattle.std.proofs.lemmas.Bool.{false≢true}
 use Rattle.plan.proofs.sections.is_word.Goals as goal

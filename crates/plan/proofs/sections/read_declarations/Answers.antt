@@ -1,11 +1,10 @@
-use Rattle.std.proofs.Common.{◌≡◌, ℕ, ◌+◌, List, Ok, Err, sym, refl, ap, ◌∙◌, subst, arith}
+use Rattle.std.proofs.Common.{◌≡◌, ◌+◌, Ok, Err, sym, ap, ◌∙◌, subst}
 use Rattle.std.proofs.lemmas.Result.{err_from_is_err_and}
-use Rattle.tokens.specs.Faults.{fault}
 use Rattle.notation.specs.Tables.{Table}
 use Rattle.notation.specs.Views.{open_table, sealed_table}
 use Rattle.plan.specs.declared.input_fault.InputFault.{InputFault}
 use Rattle.plan.specs.NumberedAhead.{numbered_ahead}
-use Rattle.plan.specs.Sections.{Sectioned, Declarations, section, fault_at_line, malformed, empty_table}
+use Rattle.plan.specs.Sections.{Declarations, section, fault_at_line, malformed, empty_table}
 use Rattle.plan.proofs.Sectioning.{list_ends, list_refused, list_goes_on, list_unended}
 use Rattle.plan.proofs.sections.read_declarations.Goals as goal
 

@@ -1,4 +1,3 @@
-use Rattle.std.proofs.Common.{◌≡◌, length}
 use Rattle.notation.specs.Views.{open_table}
 use Rattle.plan.specs.NumberedAhead.{numbered_ahead}
 use Rattle.plan.specs.Sections.{Sectioned, Declarations, empty_table}

@@ -1,6 +1,5 @@
 use Rattle.std.proofs.Common.{List, length, sym, ap, subst, arith}
 use Rattle.rack.specs.declared.node.Node.{Node}
-use Rattle.rack.specs.Nodes.{size}
 use Rattle.rack.specs.Racks.{SoundBelow}
 use Rattle.rack.specs.Reckoning.{ValueOf, Valued}
 use Rattle.rack.proofs.Answering.{rooted_size, rooted_part, rooted_only}

@@ -1,4 +1,4 @@
-use Rattle.std.proofs.Common.{◌≡◌, ◌<◌, length, sym, ◌∙◌, arith, rules}
+use Rattle.std.proofs.Common.{◌≡◌, sym, ◌∙◌, arith, rules}
 use Rattle.tokens.specs.Tokens.{kind_in, kind_of}
 use Rattle.tokens.proofs.Runs.{stops, alike_none, alike_more, kind_from_class}
 use Rattle.tokens.proofs.cutting.run_end.Goals as goal

@@ -1,6 +1,4 @@
-use Rattle.std.proofs.Common.{Ok, Err, refl, arith}
 use Rattle.std.proofs.lemmas.Result.{IfOk-weaker, err_from_is_err_and}
-use Rattle.tokens.specs.Limits.{WithinLimits}
 use Rattle.tokens.proofs.Checks.{limits_only, too_long, unlawful_found, tokens_checked, within}
 use Rattle.tokens.proofs.limits.check_expression.Goals as goal
 

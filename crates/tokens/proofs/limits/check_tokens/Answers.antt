@@ -1,4 +1,4 @@
-use Rattle.std.proofs.Common.{◌≡◌, ℕ, List, None, Err, Option, sym, refl, ap, ◌∙◌, subst}
+use Rattle.std.proofs.Common.{ℕ, List, None, Err, Option, sym, ap, ◌∙◌, subst}
 use Rattle.tokens.specs.declared.fault.FaultKind.TheVariants.{TooManyTokens}
 use Rattle.tokens.specs.Faults.{fault}
 use Rattle.tokens.specs.Limits.{TokenLimits}

@@ -1,6 +1,3 @@
-use Rattle.std.proofs.Common.{ℕ, [], ◌∷◌, ◌++◌, Some, Option, sym, subst}
-use Rattle.std.specs.Option.{option_or}
-use Rattle.tokens.specs.Limits.{LongWordIn}
 use Rattle.tokens.specs.Tokens.{placed}
 use Rattle.tokens.proofs.Checks.{long_found, long_other}
 use Rattle.tokens.proofs.limits.first_long_word.Goals as goal

@@ -1,7 +1,6 @@
-use Rattle.std.proofs.Common.{◌≡◌, ℕ, ◌+◌, ◌<◌, ◌≤◌, true, false, cond, List, [], ◌++◌, map, length, Some, vec_items, vec_len, vec_capacity, Option, sym, refl, ap, ◌∙◌, append-nil, arith}
+use Rattle.std.proofs.Common.{ℕ, List, ◌++◌, map, Some, vec_items, sym, refl, ap, ◌∙◌, append-nil, arith}
 use Rattle.std.proofs.lemmas.List.{length-append}
 use Rattle.std.proofs.lemmas.Result.{err_from_is_err_and}
-use Rattle.tokens.specs.declared.token.TokenKind.{TokenKind}
 use Rattle.tokens.specs.Cutters.{ahead}
 use Rattle.tokens.specs.Spacing.{closes, spaced_after, respaced, pairs_among, pairs_of}
 use Rattle.tokens.specs.Tokens.{Placed, placed, lexeme}

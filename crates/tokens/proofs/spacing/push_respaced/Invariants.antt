@@ -1,4 +1,4 @@
-use Rattle.std.proofs.Common.{◌≡◌, ◌+◌, ◌≤◌, ◌++◌, map, length, vec_items, vec_capacity}
+use Rattle.std.proofs.Common.{◌≡◌, ◌+◌, ◌≤◌, ◌++◌, map, vec_items, vec_capacity}
 use Rattle.tokens.specs.Cutters.{ahead}
 use Rattle.tokens.specs.Spacing.{spaced_after, respaced, pairs_among, pairs_of}
 use Rattle.tokens.specs.Tokens.{lexeme}

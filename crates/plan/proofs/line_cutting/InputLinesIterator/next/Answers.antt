@@ -1,4 +1,4 @@
-use Rattle.std.proofs.Common.{◌≡◌, ◌-◌, ◌<◌, ◌≤◌, ◌∷◌, length, take, drop, sym, refl, ap, ◌∙◌, arith, rules}
+use Rattle.std.proofs.Common.{◌-◌, ◌<◌, ◌∷◌, length, take, drop, sym, ap, ◌∙◌, arith, rules}
 use Rattle.plan.specs.InputLines.{lines_of}
 use Rattle.plan.specs.LinesAhead.{ahead}
 use Rattle.plan.proofs.Splits.{next_line, at_end}

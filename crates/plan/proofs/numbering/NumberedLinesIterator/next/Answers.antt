@@ -1,4 +1,4 @@
-use Rattle.std.proofs.Common.{◌≡◌, length, sym, refl, ap, ◌∙◌, arith, rules}
+use Rattle.std.proofs.Common.{length, refl, ap, arith, rules}
 use Rattle.plan.specs.LinesAhead.{ahead}
 use Rattle.plan.specs.NumberedAhead.{numbered_ahead}
 use Rattle.plan.proofs.Counts.{count_full, count_end, count_more}

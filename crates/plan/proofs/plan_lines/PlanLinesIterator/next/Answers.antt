@@ -1,4 +1,4 @@
-use Rattle.std.proofs.Common.{◌≡◌, length, sym, refl, ap, ◌∙◌, arith, rules}
+use Rattle.std.proofs.Common.{length, sym, ap, arith, rules}
 use Rattle.plan.specs.NumberedAhead.{numbered_ahead}
 use Rattle.plan.specs.PlanLinesAhead.{plan_ahead}
 use Rattle.plan.specs.Plans.{up_to_tail}

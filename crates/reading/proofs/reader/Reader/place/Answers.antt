@@ -1,7 +1,6 @@
 use Rattle.std.proofs.Common.{arith, rules}
 use Rattle.notation.specs.Operators.{meant}
 use Rattle.reading.specs.Waiting.{waiting}
-use Rattle.reading.specs.Yard.{site}
 use Rattle.reading.proofs.Bounds.{settled_spans}
 use Rattle.reading.proofs.Racks.{same_outside}
 use Rattle.reading.proofs.reader.Reader.place.Goals as goal

@@ -1,4 +1,4 @@
-use Rattle.std.proofs.Common.{◌≡◌, length, sym, ap, ◌∙◌, arith}
+use Rattle.std.proofs.Common.{length, sym, ap, ◌∙◌, arith}
 use Rattle.notation.specs.Operators.{Op, meant}
 use Rattle.grammar.specs.Neighbours.{taker}
 use Rattle.reading.specs.Waiting.{waiting}

@@ -1,4 +1,4 @@
-use Rattle.std.proofs.Common.{◌≡◌, length, sym, ap, ◌∙◌, arith}
+use Rattle.std.proofs.Common.{length, sym, ap, ◌∙◌, arith}
 use Rattle.reading.specs.Waiting.{waiting}
 use Rattle.reading.proofs.Racks.{same_outside}
 use Rattle.reading.proofs.Turns.{one_less, unwound_more, unwound_end}

@@ -1,4 +1,4 @@
-use Rattle.std.proofs.Common.{◌≡◌, ◌-◌, ◌≤◌, length, drop}
+use Rattle.std.proofs.Common.{◌≡◌, ◌-◌, length, drop}
 use Rattle.tokens.specs.Tokens.{tokens_from}
 use Rattle.tokens.proofs.cutting.CutterIterator.next.Given as goal
 
