@@ -2,45 +2,45 @@
 ghost use Rattle.std.specs.Prelude.{◌≡◌};
 ghost use Rattle.tokens.specs.Faults.{letter_of, number_of};
 
-// Each reason for a refusal, by the layer that finds it. docs/FAULTS.md says when each is given.
-#[derive(Clone, Copy)]
+// Each reason for a refusal, by the layer that finds it, with its number. docs/FAULTS.md says when each is given.
+#[derive(Clone, Copy, PartialEq, Eq)]
 pub enum FaultKind {
     // D: declaring operators.
-    MalformedDeclaration,
-    UnknownType,
-    WrongFunction,
-    PriorityOutOfRange,
-    MalformedSpelling,
-    FunctionListed,
-    SpellingTaken,
-    MixedLevel,
+    MalformedDeclaration = 10,
+    UnknownType = 11,
+    WrongFunction = 12,
+    PriorityOutOfRange = 13,
+    MalformedSpelling = 14,
+    FunctionListed = 15,
+    SpellingTaken = 16,
+    MixedLevel = 17,
     // R: reading an expression.
-    ExpressionTooLong,
-    UnlawfulByte,
-    TooManyTokens,
-    WordTooLong,
-    UnlistedSymbol,
-    OperandExpected,
-    OperatorExpected,
-    UnmatchedBracket,
-    PriorityClash,
-    RackFull,
+    ExpressionTooLong = 20,
+    UnlawfulByte = 21,
+    TooManyTokens = 22,
+    WordTooLong = 23,
+    UnlistedSymbol = 24,
+    OperandExpected = 25,
+    OperatorExpected = 26,
+    UnmatchedBracket = 27,
+    PriorityClash = 28,
+    RackFull = 30,
     // W: writing a tree.
-    NoSuchRoot,
-    MarkAboveFill,
-    FunctionAbsent,
-    NameListed,
-    TextTooLong,
-    OutletRefused,
-    MalformedRack,
-    TooFewValues,
+    NoSuchRoot = 31,
+    MarkAboveFill = 32,
+    FunctionAbsent = 33,
+    NameListed = 34,
+    TextTooLong = 35,
+    OutletRefused = 36,
+    MalformedRack = 37,
+    TooFewValues = 38,
     // P: lines of a plan.
-    MalformedLine,
-    PlanFull,
+    MalformedLine = 40,
+    PlanFull = 41,
 }
 
 // A refusal: its kind, and the place where it was found.
-#[derive(Clone, Copy)]
+#[derive(Clone, Copy, PartialEq, Eq)]
 pub struct Fault {
     pub kind: FaultKind,
     pub place: usize,
@@ -51,34 +51,11 @@ impl FaultKind {
     pub fn letter(self) -> u8
         ensures { result ≡ letter_of self }
     {
-        match self {
-            FaultKind::MalformedDeclaration
-            | FaultKind::UnknownType
-            | FaultKind::WrongFunction
-            | FaultKind::PriorityOutOfRange
-            | FaultKind::MalformedSpelling
-            | FaultKind::FunctionListed
-            | FaultKind::SpellingTaken
-            | FaultKind::MixedLevel => b'D',
-            FaultKind::ExpressionTooLong
-            | FaultKind::UnlawfulByte
-            | FaultKind::TooManyTokens
-            | FaultKind::WordTooLong
-            | FaultKind::UnlistedSymbol
-            | FaultKind::OperandExpected
-            | FaultKind::OperatorExpected
-            | FaultKind::UnmatchedBracket
-            | FaultKind::PriorityClash
-            | FaultKind::RackFull => b'R',
-            FaultKind::NoSuchRoot
-            | FaultKind::MarkAboveFill
-            | FaultKind::FunctionAbsent
-            | FaultKind::NameListed
-            | FaultKind::TextTooLong
-            | FaultKind::OutletRefused
-            | FaultKind::MalformedRack
-            | FaultKind::TooFewValues => b'W',
-            FaultKind::MalformedLine | FaultKind::PlanFull => b'P',
+        match self.number() {
+            ..20 => b'D',
+            20..=30 => b'R',
+            31..40 => b'W',
+            40.. => b'P',
         }
     }
 
@@ -86,35 +63,6 @@ impl FaultKind {
     pub fn number(self) -> u8
         ensures { result ≡ number_of self }
     {
-        match self {
-            FaultKind::MalformedDeclaration => 10,
-            FaultKind::UnknownType => 11,
-            FaultKind::WrongFunction => 12,
-            FaultKind::PriorityOutOfRange => 13,
-            FaultKind::MalformedSpelling => 14,
-            FaultKind::FunctionListed => 15,
-            FaultKind::SpellingTaken => 16,
-            FaultKind::MixedLevel => 17,
-            FaultKind::ExpressionTooLong => 20,
-            FaultKind::UnlawfulByte => 21,
-            FaultKind::TooManyTokens => 22,
-            FaultKind::WordTooLong => 23,
-            FaultKind::UnlistedSymbol => 24,
-            FaultKind::OperandExpected => 25,
-            FaultKind::OperatorExpected => 26,
-            FaultKind::UnmatchedBracket => 27,
-            FaultKind::PriorityClash => 28,
-            FaultKind::RackFull => 30,
-            FaultKind::NoSuchRoot => 31,
-            FaultKind::MarkAboveFill => 32,
-            FaultKind::FunctionAbsent => 33,
-            FaultKind::NameListed => 34,
-            FaultKind::TextTooLong => 35,
-            FaultKind::OutletRefused => 36,
-            FaultKind::MalformedRack => 37,
-            FaultKind::TooFewValues => 38,
-            FaultKind::MalformedLine => 40,
-            FaultKind::PlanFull => 41,
-        }
+        self as u8
     }
 }

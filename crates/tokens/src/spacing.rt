@@ -11,10 +11,7 @@ use std::alloc::AllocError;
 pub fn needs_space(left: TokenKind, right: TokenKind) -> bool
     ensures { result ≡ together left right }
 {
-    match (left, right) {
-        (TokenKind::Word, TokenKind::Word) | (TokenKind::Symbol, TokenKind::Symbol) => true,
-        _ => false,
-    }
+    left == right && matches!(left, TokenKind::Word | TokenKind::Symbol)
 }
 
 // Appends the space, if there is one, between a token of kind `last`, if any, and one of kind `next`.
@@ -23,10 +20,7 @@ fn push_between(out: &mut Vec<u8>, last: Option<TokenKind>, next: TokenKind)
     ensures bytes { out.new.items ≡ out.old.items ++ between last next }
     ensures capacity { vec_capacity out.new ≡ vec_capacity out.old }
 {
-    let Some(kind) = last else {
-        return;
-    };
-    if needs_space(kind, next) {
+    if last.is_some_and(|kind| needs_space(kind, next)) {
         out.push_reserved(b' ');
     }
 }
@@ -46,10 +40,7 @@ fn push_token(out: &mut Vec<u8>, last: Option<TokenKind>, token: Token<'_>)
 fn pairs_closed(kind: TokenKind) -> usize
     ensures { result ≡ closes kind }
 {
-    match kind {
-        TokenKind::Close => 1,
-        TokenKind::Word | TokenKind::Symbol | TokenKind::Open => 0,
-    }
+    usize::from(kind == TokenKind::Close)
 }
 
 // Appends the tokens of the expression by the spacing rule, and answers its pairs of brackets.
