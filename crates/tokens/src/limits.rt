@@ -39,21 +39,7 @@ fn check_bytes(text: &[u8]) -> Result<(), Fault>
 fn is_long_word(token: Token<'_>) -> bool
     ensures { MatchBool result (LongWord (placed token.entry)) (LongWord (placed token.entry) → ⊥) }
 {
-    match token {
-        Token::Word { bytes, .. } => bytes.len() > MAX_WORD_BYTES,
-        Token::Symbol { .. } | Token::Open { .. } | Token::Close { .. } => false,
-    }
-}
-
-// The place of the first word that is too long, once `token` has come after those with `earlier`.
-fn first_long_word(earlier: Option<usize>, token: Token<'_>) -> Option<usize>
-    ensures { (before : List Placed) → LongWordIn before earlier → LongWordIn (before ++ placed token.entry ∷ []) result }
-{
-    if is_long_word(token) {
-        earlier.or(Some(token.place()))
-    } else {
-        earlier
-    }
+    matches!(token, Token::Word { bytes, .. } if bytes.len() > MAX_WORD_BYTES)
 }
 
 // Refuses a token too many, else a word that is too long: the first there is, at its place.
@@ -61,32 +47,19 @@ fn check_tokens(text: &[u8]) -> Result<(), Fault>
     ensures answer { TokenLimits text.now result }
     ensures within { OnOk result ((length (tokens_of text.now) ≤ 1024) × LongWordIn (tokens_of text.now) None) }
 {
-    let mut long_word = None;
-    let mut count = 0;
-    for token in Cutter::new(text) {
-        if count == MAX_TOKENS {
-            return Err(Fault {
-                kind: FaultKind::TooManyTokens,
-                place: token.place(),
-            });
-        }
-        count += 1;
-        long_word = first_long_word(long_word, token);
+    if let Some(token) = Cutter::new(text).nth(MAX_TOKENS) {
+        return Err(Fault {
+            kind: FaultKind::TooManyTokens,
+            place: token.place(),
+        });
     }
-    match long_word {
-        Some(place) => Err(Fault {
+    match Cutter::new(text).find(|token| is_long_word(*token)) {
+        Some(word) => Err(Fault {
             kind: FaultKind::WordTooLong,
-            place,
+            place: word.place(),
         }),
         None => Ok(()),
     }
-}
-
-// Whether the expression has too many bytes.
-fn is_too_long(text: &[u8]) -> bool
-    ensures { MatchBool result (4096 < length text.now) (length text.now ≤ 4096) }
-{
-    text.len() > MAX_EXPRESSION_BYTES
 }
 
 // The first limit that the expression passes, in this order: its bytes, an unlawful byte, its
@@ -95,7 +68,7 @@ pub fn check_expression(text: &[u8]) -> Result<(), Fault>
     ensures answer { Only (Limits text.now) result }
     ensures within { OnOk result (WithinLimits text.now) }
 {
-    if is_too_long(text) {
+    if text.len() > MAX_EXPRESSION_BYTES {
         return Err(Fault {
             kind: FaultKind::ExpressionTooLong,
             place: MAX_EXPRESSION_BYTES,
