@@ -1,6 +1,9 @@
 // Byte classes: what a byte is in an expression.
 ghost use Rattle.std.specs.Prelude.{◌≡◌};
 ghost use Rattle.tokens.specs.Bytes.{class_of};
+ghost use Rattle.tokens.specs.Tokens.{kind_in};
+
+use crate::token::TokenKind;
 
 // What a byte is in an expression. A byte of class `Unlawful` may not stand in one.
 #[derive(Clone, Copy, PartialEq, Eq)]
@@ -46,6 +49,19 @@ impl ByteClass {
             ')' => ByteClass::Close,
             ' ' => ByteClass::Space,
             _ => ByteClass::Unlawful,
+        }
+    }
+
+    // The kind of token that a byte of the class belongs to, if any.
+    pub(crate) fn kind(self) -> Option<TokenKind>
+        ensures { result ≡ kind_in self }
+    {
+        match self {
+            ByteClass::Word => Some(TokenKind::Word),
+            ByteClass::Symbol => Some(TokenKind::Symbol),
+            ByteClass::Open => Some(TokenKind::Open),
+            ByteClass::Close => Some(TokenKind::Close),
+            ByteClass::Space | ByteClass::Unlawful => None,
         }
     }
 }

@@ -1,14 +1,13 @@
 // Cutting: how the cutter goes on from token to token.
-ghost use Rattle.std.specs.Prelude.{◌≡◌, ℕ, ◌+◌, ◌-◌, ◌<◌, ◌≤◌, ◌∷◌, length, take, drop, Some};
+ghost use Rattle.std.specs.Prelude.{◌≡◌, ◌≢◌, ◌+◌, ◌≤◌, length, take, drop, slice_get, IfSome};
 ghost use Rattle.std.specs.List.{AllByRecursion};
-ghost use Rattle.tokens.specs.Tokens.{kind_in, kind_of, Longest, tokens_of, Tokens};
+ghost use Rattle.tokens.specs.Tokens.{kind_of, tokens_of, Tokens};
 ghost use Rattle.tokens.specs.Cutters.{ahead, Next};
-ghost use Rattle.tokens.specs.declared.token.TokenKind.{TokenKind};
 ghost use Rattle.std.specs.Iterator.{at_most};
 
 use crate::byte::ByteClass;
 use crate::cutter::Cutter;
-use crate::token::Token;
+use crate::token::{Token, TokenKind};
 
 impl<'a> Cutter<'a> {
     // A cutter at the start of the expression.
@@ -16,23 +15,38 @@ impl<'a> Cutter<'a> {
         ensures ahead { ahead result ≡ tokens_of text.now }
         ensures tokens { Tokens text.now (ahead result) }
     {
-        Cutter { text, at: 0 }
+        Cutter {
+            rest: text,
+            place: 0,
+        }
+    }
+
+    // Cuts that many bytes off what is left.
+    fn cut(&mut self, len: usize) -> &'a [u8]
+        requires { len ≤ length self.old.rest.now }
+        ensures bytes { result.now ≡ take len self.old.rest.now }
+        ensures rest { self.new.rest.now ≡ drop len self.old.rest.now }
+        ensures place { self.new.place ≡ self.old.place + len }
+    {
+        let (bytes, rest) = self.rest.split_at(len);
+        *self = Cutter {
+            rest,
+            place: self.place + len,
+        };
+        bytes
     }
 }
 
-// Where the run of bytes of the class ends that begins at `from`.
-fn run_end(text: &[u8], from: usize, class: ByteClass) -> usize
-    requires { from ≤ length text.now }
-    ensures forward { from ≤ result }
-    ensures within { result ≤ length text.now }
-    ensures alike { AllByRecursion (λ b. kind_of b ≡ kind_in class) (take (result - from) (drop from text.now)) }
-    ensures longest { (k : TokenKind) → kind_in class ≡ Some k → Longest k (drop result text.now) }
+// How many bytes at the front belong to tokens of the kind, or to no token if there is no kind.
+fn run_len(bytes: &[u8], kind: Option<TokenKind>) -> usize
+    ensures within { result ≤ length bytes.now }
+    ensures alike { AllByRecursion (λ b. kind_of b ≡ kind) (take result bytes.now) }
+    ensures longest { IfSome (slice_get (drop result bytes.now) 0) (λ b. kind_of b ≢ kind) }
 {
-    let mut end = from;
-    while end < text.len() && ByteClass::of(text[end]) == class {
-        end += 1;
-    }
-    end
+    bytes
+        .iter()
+        .take_while(|byte| ByteClass::of(**byte).kind() == kind)
+        .count()
 }
 
 impl<'a> Iterator for Cutter<'a> {
@@ -44,43 +58,16 @@ impl<'a> Iterator for Cutter<'a> {
 
     // The next token, or none where only separators are left.
     fn next(&mut self) -> Option<Token<'a>> {
-        let text = self.text;
-        while self.at < text.len() {
-            let place = self.at;
-            match ByteClass::of(text[place]) {
-                ByteClass::Word => {
-                    let end = run_end(text, place, ByteClass::Word);
-                    self.at = end;
-                    return Some(Token::Word {
-                        place,
-                        bytes: &text[place..end],
-                    });
-                }
-                ByteClass::Symbol => {
-                    let end = run_end(text, place, ByteClass::Symbol);
-                    self.at = end;
-                    return Some(Token::Symbol {
-                        place,
-                        bytes: &text[place..end],
-                    });
-                }
-                ByteClass::Open => {
-                    self.at = place + 1;
-                    return Some(Token::Open {
-                        place,
-                        bytes: &text[place..place + 1],
-                    });
-                }
-                ByteClass::Close => {
-                    self.at = place + 1;
-                    return Some(Token::Close {
-                        place,
-                        bytes: &text[place..place + 1],
-                    });
-                }
-                ByteClass::Space | ByteClass::Unlawful => self.at = place + 1,
-            }
-        }
-        None
+        let gap = run_len(self.rest, None);
+        self.cut(gap);
+        let (first, more) = self.rest.split_first()?;
+        let kind = ByteClass::of(*first).kind()?;
+        let len = match kind {
+            TokenKind::Word | TokenKind::Symbol => 1 + run_len(more, Some(kind)),
+            TokenKind::Open | TokenKind::Close => 1,
+        };
+        let place = self.place;
+        let bytes = self.cut(len);
+        Some(Token::new(kind, place, bytes))
     }
 }

@@ -22,6 +22,18 @@ pub enum Token<'a> {
 }
 
 impl<'a> Token<'a> {
+    // The token of the kind with these bytes, at the place.
+    pub(crate) fn new(kind: TokenKind, place: usize, bytes: &'a [u8]) -> Token<'a>
+        ensures { placed result ≡ record { kind = kind; place = place; bytes = bytes.now } }
+    {
+        match kind {
+            TokenKind::Word => Token::Word { place, bytes },
+            TokenKind::Symbol => Token::Symbol { place, bytes },
+            TokenKind::Open => Token::Open { place, bytes },
+            TokenKind::Close => Token::Close { place, bytes },
+        }
+    }
+
     // Which of the four kinds it is.
     pub fn kind(self) -> TokenKind
         ensures { result ≡ (placed self.entry).kind }

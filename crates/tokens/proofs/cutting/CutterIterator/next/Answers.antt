@@ -1,54 +1,49 @@
-use Rattle.std.proofs.Common.{◌≡◌, ℕ, List, ◌∷◌, length, drop, sym, refl, ap, ◌∙◌, inl, inr, ⊎_elim, arith, rules}
-use Rattle.std.proofs.lemmas.Bool.{true≢false}
-use Rattle.tokens.specs.declared.byte.ByteClass.TheVariants as C
-use Rattle.tokens.specs.declared.token.TokenKind.TheVariants.{Word, Symbol, Open, Close}
-use Rattle.tokens.specs.Cutters.{ahead}
-use Rattle.tokens.specs.Tokens.{Placed, tokens_from}
-use Rattle.tokens.proofs.Runs.{run_token, run_some, bracket_token, skipped, at_end, kind_from_class}
-use Rattle.tokens.proofs.cutting.CutterIterator.next.Goals as goal
+use Rattle.std.proofs.Common.{◌≡◌, ◌+◌, List, ◌∷◌, length, drop, take, slice_get, Some, None, true, ℕ, refl, sym, ap, ◌∙◌, subst, ⊎_elim, arith, rules}
 use Rattle.std.proofs.iter.Next.{firm}
+use Rattle.tokens.specs.declared.token.TokenKind.{TokenKind}
+use Rattle.tokens.specs.Cutters.{ahead}
+use Rattle.tokens.specs.Tokens.{kind_in, kind_of, together, tokens_from}
+use Rattle.tokens.proofs.Cuts.{token}
+use Rattle.tokens.proofs.Runs.{EndsKind, gap_passed, at_end, run_token, bracket_token}
+use Rattle.tokens.proofs.cutting.CutterIterator.next.Goals as goal
+use Rattle.tokens.proofs.cutting.CutterIterator.next.Goals.{in-Word, in-Open}
 
--- the tokens that are left of the text are left of the same text under another name
-same_left : (text other : List ℕ) (t : Placed) (b : ℕ) → other ≡ text → t ∷ tokens_from b (drop b text) ≡ t ∷ tokens_from b (drop b other)
-same_left text other t b e = ap (λ (l : List ℕ). t ∷ tokens_from b (drop b l)) (sym e)
-
-pub returns-in-Word : goal.returns-in-Word
+pub returns-in_err-first-clause-steps : goal.returns-in_err-first-clause-steps
 unfolding ahead
-returns-in-Word c =
-    let text = c.args.self.now.text.now in
-    let run = c.run_end-end.ensures in
-    let long = run.longest Word refl in
-    let some = run_some C.Word text c.loop-self.self.at c.run_end-end.result Word run.forward c.loop-self-test.true (sym c.in-Word.ensures) refl refl long in
-    let e = c.loop-self.invariant.1 ∙ run_token text c.loop-self.self.at c.run_end-end.result some run.within Word run.alike (λ never. absurd (true≢false never)) long ∙ same_left _ _ _ _ c.loop-self.invariant.0 in
-    record { steps = e; goes = firm ((tt, tt, omega (arith, ap length e))) (λ h. search rules) }
+returns-in_err-first-clause-steps c =
+    let gap = c.run_len-gap.ensures in
+    let s = c.args.self.now in
+    rw c.from_residual.ensures (gap_passed s.rest.now s.place _ gap.within gap.alike ∙ at_end _ _ (ap length (sym c.cut.ensures.rest) ∙ c.in_err-first.ensures.cases))
 
-pub returns-in-Symbol : goal.returns-in-Symbol
-unfolding ahead
-returns-in-Symbol c =
-    let text = c.args.self.now.text.now in
-    let run = c.run_end-end-in-Symbol.ensures in
-    let long = run.longest Symbol refl in
-    let some = run_some C.Symbol text c.loop-self.self.at c.run_end-end-in-Symbol.result Symbol run.forward c.loop-self-test.true (sym c.in-Symbol.ensures) refl refl long in
-    let e = c.loop-self.invariant.1 ∙ run_token text c.loop-self.self.at c.run_end-end-in-Symbol.result some run.within Symbol run.alike (λ never. absurd (true≢false never)) long ∙ same_left _ _ _ _ c.loop-self.invariant.0 in
-    record { steps = e; goes = firm ((tt, tt, omega (arith, ap length e))) (λ h. search rules) }
-
-pub returns-in-Open : goal.returns-in-Open
-unfolding ahead
-returns-in-Open c =
-    let e = c.loop-self.invariant.1 ∙ bracket_token Open c.args.self.now.text.now c.loop-self.self.at c.loop-self-test.true refl (kind_from_class _ C.Open (sym c.in-Open.ensures)) ∙ same_left _ _ _ _ c.loop-self.invariant.0 in
-    record { steps = e; goes = firm ((tt, tt, omega (arith, ap length e))) (λ h. search rules) }
-
-pub returns-in-Close : goal.returns-in-Close
-unfolding ahead
-returns-in-Close c =
-    let e = c.loop-self.invariant.1 ∙ bracket_token Close c.args.self.now.text.now c.loop-self.self.at c.loop-self-test.true refl (kind_from_class _ C.Close (sym c.in-Close.ensures)) ∙ same_left _ _ _ _ c.loop-self.invariant.0 in
-    record { steps = e; goes = firm ((tt, tt, omega (arith, ap length e))) (λ h. search rules) }
-
-pub loop-self-preserved : goal.loop-self-preserved
-loop-self-preserved c =
-    let class = sym c.of.ensures in
-    (c.loop-self.invariant.0, c.loop-self.invariant.1 ∙ skipped c.args.self.now.text.now c.loop-self.self.at c.loop-self-test.true (⊎_elim (λ e. inl (class ∙ e)) (λ e. inr (class ∙ e)) c.in-Space.is))
+pub returns-in_err-kind-clause-steps : goal.returns-in_err-kind-clause-steps
+unfolding kind_of
+returns-in_err-kind-clause-steps c =
+    let ends = subst (EndsKind None) (sym c.cut.ensures.rest ∙ c.in_ok-first.ensures.cases.0) c.run_len-gap.ensures.longest in
+    absurd (ends (ap kind_in (sym c.of.ensures) ∙ sym c.kind.ensures ∙ c.in_err-kind.was))
 
 pub returns : goal.returns
-unfolding ahead
-returns c = record { steps = c.loop-self.invariant.1 ∙ at_end c.args.self.now.text.now c.loop-self.self.at c.loop-self-test.false; goes = firm (tt) (λ h. search rules) }
+unfolding ahead kind_of
+returns c =
+    let s = c.args.self.now in
+    let t = c.cut.new.self in
+    let gap = c.run_len-gap.ensures in
+    let cut = c.cut.ensures in
+    let next = c.cut-bytes.ensures in
+    let b = c.in_ok-first.first.now in
+    let more = c.in_ok-first.more.now in
+    let k : TokenKind = c.in_ok-kind.kind in
+    let len = c.match-kind.len in
+    let is : kind_of b ≡ Some k = ap kind_in (sym c.of.ensures) ∙ sym c.kind.ensures ∙ c.in_ok-kind.was in
+    let here : tokens_from t.place (b ∷ more) ≡ token k t.place (take len (b ∷ more)) ∷ tokens_from (t.place + len) (drop len (b ∷ more)) =
+    elim c.match-kind.branch [
+      | in-Word w ↦ rw w.len-is (run_token k b more t.place is (⊎_elim (λ e. ap (λ j. together j j) e) (λ e. ap (λ j. together j j) e) w.in-Word.is) _ w.run_len.ensures.within w.run_len.ensures.alike w.run_len.ensures.longest)
+      | in-Open w ↦ rw w.len-is (bracket_token k b more t.place is (⊎_elim (λ e. ap (λ j. together j j) e) (λ e. ap (λ j. together j j) e) w.in-Open.is))
+    ] in
+    let front : b ∷ more ≡ t.rest.now = sym c.in_ok-first.ensures.cases.0 in
+    let made = ap (token k t.place) (ap (take len) front ∙ sym next.bytes) ∙ sym c.new.ensures in
+    let steps =
+    gap_passed s.rest.now s.place _ gap.within gap.alike
+    ∙ (λ i. tokens_from (sym cut.place i) ((sym cut.rest ∙ sym front) i))
+    ∙ here
+    ∙ (λ i. made i ∷ tokens_from (sym next.place i) ((ap (drop len) front ∙ sym next.rest) i)) in
+    record { steps = steps; goes = firm ((tt, tt, omega (arith, ap length steps))) (λ h. search rules) }
