@@ -1,56 +1,68 @@
--- What the checks of an expression find, and that they have one answer.
-use Rattle.std.proofs.Common.{◌≡◌, ℕ, ◌+◌, ◌<◌, ◌≤◌, List, [], ◌∷◌, ◌++◌, length, get_or, take, slice_get, Some, None, Ok, Err, Option, Result, sym, refl, ap, ◌∙◌, subst, inl, inr, ⊎_elim, arith}
-use Rattle.std.specs.List.{AllByRecursion, AllWithin, HoldsAt}
-use Rattle.std.proofs.lemmas.Bool.{cases_lt}
-use Rattle.std.proofs.lemmas.Iterator.{YieldsList}
-use Rattle.std.proofs.lemmas.Iterator.Consumers.{YieldsList-from_shown}
-use Rattle.std.proofs.lemmas.List.Elements.{recursion_from_All, All-from_all_within}
-use Rattle.std.proofs.lemmas.Option.{none-some, slice_get-get_or}
-use Rattle.tokens.specs.declared.cutter.Cutter.{Cutter}
+-- What the checks of an expression keep from turn to turn, and that they have one answer.
+use Rattle.std.proofs.Common.{◌≡◌, ℕ, ◌+◌, ◌<◌, ◌≤◌, List, [], ◌∷◌, ◌++◌, length, get_or, take, Some, None, Ok, Err, Option, Result, sym, refl, ap, ◌∙◌, subst, inl, inr, append_assoc, append-nil, arith}
+use Rattle.std.specs.List.{AllByRecursion}
+use Rattle.std.specs.Option.{option_or}
+use Rattle.std.proofs.ByRecursion.{All-push}
+use Rattle.std.proofs.lemmas.List.{length-append, length_push}
 use Rattle.tokens.specs.declared.fault.Fault.{Fault}
 use Rattle.tokens.specs.declared.fault.FaultKind.TheVariants.{ExpressionTooLong, UnlawfulByte, TooManyTokens, WordTooLong}
 use Rattle.tokens.specs.Faults.{fault}
 use Rattle.tokens.specs.InOrder.{IfSome, Only, Refused, Accepted, Nth}
 use Rattle.tokens.specs.Limits.{Unlawful, Lawful, LongWord, FirstUnlawful, TokenTooMany, LongWordIn, FirstLongWord, TokenLimits, Limits, WithinLimits}
-use Rattle.tokens.specs.declared.token.TokenKind.TheVariants.{Word}
-use Rattle.tokens.specs.Cutters.{ahead, Next}
-use Rattle.tokens.specs.Tokens.{Placed, placed, tokens_of}
-use Rattle.tokens.proofs.Firsts.{nth_one, nth_inside, nth_at, all_before, first_one, first_none, first_at, if_one, if_some_one}
+use Rattle.tokens.specs.Tokens.{Placed, tokens_of}
+use Rattle.tokens.proofs.Spaces.{tokens_few}
+use Rattle.tokens.proofs.Firsts.{nth_one, nth_inside, first_one, first_none, first_at, first_front, first_last, if_one, if_some_one}
 
 -- the first unlawful byte, found at an index
 pub unlawful_at : (text : List ℕ) (i : ℕ) → i < length text → AllByRecursion Lawful (take i text) → Unlawful (get_or text i 0) → FirstUnlawful text i
-unlawful_at text i lt none here = (get_or text i 0, first_at Unlawful text i (get_or text i 0) (slice_get-get_or text i 0 lt) none here)
+unlawful_at text i lt none here = (get_or text i 0, first_at Unlawful text i 0 lt none here)
+
+-- the first long word, after one token more
+pub long_found : (before : List Placed) (t : Placed) (earlier : Option ℕ) → LongWordIn before earlier → LongWord t → LongWordIn (before ++ t ∷ []) (option_or earlier (Some t.place))
+long_found before t None none here = (length before, t, first_last LongWord before t none here, refl)
+long_found before t (Some p) (i, word, first, at) here = (i, word, first_front LongWord before (t ∷ []) i word first, at)
+
+pub long_other : (before : List Placed) (t : Placed) (earlier : Option ℕ) → LongWordIn before earlier → (LongWord t → ⊥) → LongWordIn (before ++ t ∷ []) earlier
+long_other before t None none here = All-push (λ u. LongWord u → ⊥) before t none here
+long_other before t (Some p) (i, word, first, at) here = (i, word, first_front LongWord before (t ∷ []) i word first, at)
+
+-- some tokens have been counted, the others are ahead
+pub record Counted (text : List ℕ) (ahead : List Placed) (count : ℕ) (long : Option ℕ) : Type 0 where
+  pub done : List Placed
+  pub split : tokens_of text ≡ done ++ ahead
+  pub counted : length done ≡ count
+  pub few : count ≤ 1024
+  pub words : LongWordIn done long
+
+pub counted_none : (text : List ℕ) → Counted text (tokens_of text) 0 None
+counted_none text = record { done = []; split = refl; counted = refl; few = omega arith; words = tt }
+
+pub counted_more : (text : List ℕ) (ahead rest : List Placed) (t : Placed) (count more : ℕ) (long longer : Option ℕ) → Counted text ahead count long → ahead ≡ t ∷ rest → more ≡ count + 1 → (count ≡ 1024 → ⊥) → ((before : List Placed) → LongWordIn before long → LongWordIn (before ++ t ∷ []) longer) → Counted text rest more longer
+counted_more text ahead rest t count more long longer h next one room step =
+    record {
+      done = h.done ++ t ∷ [];
+      split = h.split ∙ ap (λ (l : List Placed). h.done ++ l) next ∙ sym (append_assoc h.done (t ∷ []) rest);
+      counted = omega (arith, length_push h.done t, h.counted);
+      few = omega (arith, h.few, room);
+      words = step h.done h.words;
+    }
+
+pub counted_fits : (text : List ℕ) (ahead : List Placed) (count : ℕ) (long : Option ℕ) → Counted text ahead count long → count + length ahead ≤ length text
+counted_fits text ahead count long h = omega (arith, tokens_few text, ap length h.split, length-append h.done ahead, h.counted)
 
 none_over : (text : List ℕ) → length (tokens_of text) ≤ 1024 → (p : ℕ) → TokenTooMany text p → ⊥
 none_over text few p (t, nth, at) = omega (arith, nth_inside (tokens_of text) 1024 t nth)
 
+pub all_counted : (text : List ℕ) (ahead : List Placed) (count : ℕ) (long : Option ℕ) → Counted text ahead count long → ahead ≡ [] → (length (tokens_of text) ≤ 1024) × LongWordIn (tokens_of text) long
+all_counted text ahead count long h end =
+    let whole = h.split ∙ ap (λ (l : List Placed). h.done ++ l) end ∙ append-nil h.done in
+    (omega (arith, ap length whole, h.counted, h.few), subst (λ (l : List Placed). LongWordIn l long) (sym whole) h.words)
+
 none_long : (text : List ℕ) → LongWordIn (tokens_of text) None → (p : ℕ) → FirstLongWord text p → ⊥
 none_long text none p (i, t, first, at) = first_none LongWord (tokens_of text) none i t first
 
--- the tokens that a cutter gives
-pub cutter_gives : (c : Cutter) (ts : List Placed) → ahead c ≡ ts → YieldsList Next placed c ts
-cutter_gives c ts e = subst (YieldsList Next placed c) e (YieldsList-from_shown Next placed ahead (λ s t h. ap length h) (λ s x t h. h) c)
-
-pub token_over : (text : List ℕ) (t : Placed) → Some t ≡ slice_get (tokens_of text) 1024 → TokenLimits text (Err (fault TooManyTokens t.place))
-token_over text t e = inl (t.place, (t, nth_at (tokens_of text) 1024 t (sym e), refl), refl)
-
-pub few_tokens : (ts : List Placed) (i : ℕ) → None ≡ slice_get ts i → length ts ≤ i
-few_tokens ts i e =
-    ⊎_elim (λ lt. let t : Placed = record { kind = Word; place = 0; bytes = [] } in absurd (none-some (get_or ts i t) (e ∙ slice_get-get_or ts i t lt))) (λ h. h) (cases_lt i (length ts))
-
-pub long_word : (text : List ℕ) (t : Placed) → length (tokens_of text) ≤ 1024 → LongWordIn (tokens_of text) (Some t.place) → TokenLimits text (Err (fault WordTooLong t.place))
-long_word text t few first = inr (none_over text few, inl (t.place, first, refl))
-
-pub no_long_word : (text : List ℕ) → length (tokens_of text) ≤ 1024 → LongWordIn (tokens_of text) None → TokenLimits text (Ok tt)
-no_long_word text few none = inr (none_over text few, inr (none_long text none, refl))
-
--- the first long word, as a search through the tokens finds it
-pub long_found : (ts : List Placed) (t : Placed) → LongWord t × (i : ℕ) × (i < length ts) × HoldsAt (λ u. u ≡ t) ts i × AllWithin (λ u. LongWord u → ⊥) ts 0 i → LongWordIn ts (Some t.place)
-long_found ts t (here, i, lt, at, none) =
-    (i, t, first_at LongWord ts i t (slice_get-get_or ts i t lt ∙ ap Some (at t)) (all_before (λ u. LongWord u → ⊥) ts i (omega arith) none) here, refl)
-
-pub none_found : (ts : List Placed) → AllWithin (λ u. LongWord u → ⊥) ts 0 (length ts) → LongWordIn ts None
-none_found ts none = recursion_from_All (λ u. LongWord u → ⊥) ts (All-from_all_within (λ u. LongWord u → ⊥) ts none)
+pub counted_all : (text : List ℕ) (ahead : List Placed) (count : ℕ) → Counted text ahead count None → ahead ≡ [] → TokenLimits text (Ok tt)
+counted_all text ahead count h end = let all = all_counted text ahead count None h end in inr (none_over text all.0, inr (none_long text all.1, refl))
 
 pub none_unlawful : (text : List ℕ) → AllByRecursion Lawful text → (p : ℕ) → FirstUnlawful text p → ⊥
 none_unlawful text none p (b, first) = first_none Unlawful text none p b first
@@ -81,4 +93,4 @@ limits_only text r h = record { is = h; only = λ s k. limits_one text s r k h }
 
 -- an expression within the limits is accepted
 pub within_accepted : (text : List ℕ) → WithinLimits text → Limits text (Ok tt)
-within_accepted text h = tokens_checked text (Ok tt) h.bytes h.lawful (no_long_word text h.tokens h.words)
+within_accepted text h = tokens_checked text (Ok tt) h.bytes h.lawful (inr (none_over text h.tokens, inr (none_long text h.words, refl)))

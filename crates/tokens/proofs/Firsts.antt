@@ -1,11 +1,9 @@
 -- The first element of a list of which something holds. Assumes nothing.
-use Rattle.std.proofs.Common.{◌≡◌, ℕ, ◌+◌, ◌<◌, ◌≤◌, List, ◌∷◌, ◌++◌, length, get_or, take, drop, slice_get, Some, sym, ap, ◌∙◌, subst, ⊎_elim, arith}
-use Rattle.std.specs.List.{AllByRecursion, AllWithin}
+use Rattle.std.proofs.Common.{◌≡◌, ℕ, ◌+◌, ◌<◌, List, [], ◌∷◌, ◌++◌, length, get_or, take, drop, sym, refl, ap, ◌∙◌, subst, ⊎_elim, append_assoc, arith}
+use Rattle.std.specs.List.{AllByRecursion}
 use Rattle.std.proofs.ByRecursion.{All-get_or}
-use Rattle.std.proofs.lemmas.List.{get_or_at, get_or_append_left, length-append, take-append-drop, length-take-le, get_or-take, drop_more}
-use Rattle.std.proofs.lemmas.List.Elements.{recursion_from_All}
+use Rattle.std.proofs.lemmas.List.{get_or_at, get_or_append_left, length-append, take-append-drop, length-take-le, drop_more}
 use Rattle.std.proofs.lemmas.Bool.{cases_order}
-use Rattle.std.proofs.lemmas.Option.{slice_get_within, get_or_from_slice_get}
 use Rattle.tokens.specs.InOrder.{If, IfSome, Nth, First}
 
 module _ {X : Type 0} where
@@ -32,20 +30,25 @@ module _ {X : Type 0} where
       let at : get_or xs i x ≡ x = ap (λ (l : List X). get_or l i x) p.nth.split ∙ get_or_at p.nth.earlier x p.nth.later x i p.nth.index in
       All-get_or (λ z. P z → ⊥) xs i x (nth_inside xs i x p.nth) none (subst P (sym at) p.here)
 
-  pub nth_at : (xs : List X) (i : ℕ) (x : X) → slice_get xs i ≡ Some x → Nth xs i x
-  nth_at xs i x e =
-      let lt = slice_get_within xs i x e in
-      let at : drop i xs ≡ x ∷ drop (i + 1) xs = drop_more xs i x lt ∙ ap (λ y. y ∷ drop (i + 1) xs) (get_or_from_slice_get xs i x x e) in
-      record { earlier = take i xs; later = drop (i + 1) xs; split = sym (take-append-drop i xs) ∙ ap (λ (l : List X). take i xs ++ l) at; index = length-take-le i xs (omega arith) }
-
-  pub all_before : (P : X → Type 0) (xs : List X) (i : ℕ) → i ≤ length xs → AllWithin P xs 0 i → AllByRecursion P (take i xs)
-  all_before P xs i within h =
-      recursion_from_All P (take i xs) (λ k d lt. let before : k < i = omega (arith, length-take-le i xs within) in subst P (sym (get_or-take i xs k d before)) (h k d (omega arith) before))
-
   -- the element at i, where none of those before it is one
-  pub first_at : (P : X → Type 0) (xs : List X) (i : ℕ) (x : X) → slice_get xs i ≡ Some x → AllByRecursion (λ y. P y → ⊥) (take i xs) → P x → First P xs i x
-  unfolding nth_at
-  first_at P xs i x e none here = record { nth = nth_at xs i x e; here = here; none = none }
+  pub first_at : (P : X → Type 0) (xs : List X) (i : ℕ) (d : X) → i < length xs → AllByRecursion (λ y. P y → ⊥) (take i xs) → P (get_or xs i d) → First P xs i (get_or xs i d)
+  first_at P xs i d lt none here =
+      record {
+        nth = record { earlier = take i xs; later = drop (i + 1) xs; split = sym (take-append-drop i xs) ∙ ap (λ (l : List X). take i xs ++ l) (drop_more xs i d lt); index = length-take-le i xs (omega arith) };
+        here = here;
+        none = none;
+      }
+
+  pub first_front : (P : X → Type 0) (xs ys : List X) (i : ℕ) (x : X) → First P xs i x → First P (xs ++ ys) i x
+  first_front P xs ys i x p =
+      record {
+        nth = record { earlier = p.nth.earlier; later = p.nth.later ++ ys; split = ap (λ (l : List X). l ++ ys) p.nth.split ∙ append_assoc p.nth.earlier (x ∷ p.nth.later) ys; index = p.nth.index };
+        here = p.here;
+        none = p.none;
+      }
+
+  pub first_last : (P : X → Type 0) (xs : List X) (x : X) → AllByRecursion (λ y. P y → ⊥) xs → P x → First P (xs ++ x ∷ []) (length xs) x
+  first_last P xs x none here = record { nth = record { earlier = xs; later = []; split = refl; index = refl }; here = here; none = none }
 
 -- rules in order have one answer
 module _ {R : Type 0} where

@@ -1,21 +1,17 @@
 -- A run of bytes in a text, found by its two ends, is a token of it.
-use Rattle.std.proofs.Common.{◌≡◌, ℕ, suc, ◌+◌, ◌-◌, ◌<◌, ◌≤◌, Bool, true, false, Option, List, [], ◌∷◌, ◌++◌, ◌≢◌, length, get_or, take, drop, slice_get, Some, None, sym, refl, ap, ◌∙◌, subst, ⊎_elim, arith}
+use Rattle.std.proofs.Common.{◌≡◌, ℕ, suc, ◌+◌, ◌-◌, ◌<◌, ◌≤◌, Bool, true, false, Option, List, [], ◌∷◌, ◌≢◌, length, get_or, take, drop, slice_get, Some, None, sym, refl, ap, ◌∙◌, subst, ⊎_elim, arith}
 use Rattle.std.specs.List.{AllByRecursion, prefix_len}
 use Rattle.std.specs.Option.{option_eq, IfSome}
 use Rattle.std.proofs.ByRecursion.{All-more, All-weaker}
-use Rattle.std.proofs.lemmas.List.{take-append-drop, length-take-le, length-drop, drop-drop, drop_more, drop_all, nil_from_length, get_or-drop, get_or-take}
+use Rattle.std.proofs.lemmas.List.{take-append-drop, length-take-le, length-drop, drop_more, drop_all, nil_from_length, get_or-drop, get_or-take}
 use Rattle.std.proofs.lemmas.Bool.{both_ways, cases_lt, false≢true, true≢false}
 use Rattle.std.proofs.lemmas.List.Elements.{recursion_from_All}
 use Rattle.std.proofs.lemmas.List.Folds.{length-prefix_len}
 use Rattle.std.proofs.lemmas.List.Sums.{prefix_len_passes, prefix_len_stops}
 use denote.Enum.Bare.{sameb, same_true, same_false}
-use Rattle.tokens.specs.declared.byte.ByteClass.{ByteClass}
-use Rattle.tokens.specs.declared.byte.ByteClass.TheVariants as C
 use Rattle.tokens.specs.contracts.token.TokenKind.{the_type}
 use Rattle.tokens.specs.declared.token.TokenKind.{TokenKind}
-use Rattle.tokens.specs.declared.token.TokenKind.TheVariants.{Word, Symbol, Open, Close}
-use Rattle.tokens.specs.Bytes.{class_of}
-use Rattle.tokens.specs.Tokens.{kind_of, together, tokens_from, Separator, WellFormed, Longest}
+use Rattle.tokens.specs.Tokens.{kind_of, together, tokens_from, Separator, Longest}
 use Rattle.tokens.proofs.Cuts.{token, first_token, after_gap, no_tokens, none_separator}
 
 pub alike_none : (P : ℕ → Type 0) (text : List ℕ) (from : ℕ) → AllByRecursion P (take (from - from) (drop from text))
@@ -77,7 +73,6 @@ longest_rest k (b ∷ bs) h = λ is _. h is
 bracket_longest : (k : TokenKind) (rest : List ℕ) → together k k ≡ false → Longest k rest
 bracket_longest k [] e = tt
 bracket_longest k (b ∷ bs) e = λ _ run. both_ways (together k k) e run
-
 
 -- the byte at the front, with those after it that are of its kind if it is no bracket, is the next token
 module _ (k : TokenKind) (b : ℕ) (more : List ℕ) (p : ℕ) (is : kind_of b ≡ Some k) where

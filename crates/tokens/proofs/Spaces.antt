@@ -106,11 +106,15 @@ spaced_count last (t ∷ ts) h =
     let rest = spaced_after (Some t.kind) ts in
     omega (arith, spaced_count (Some t.kind) ts h.1, h.0.some, length-append (between last t.kind) (t.bytes ++ rest), length-append t.bytes rest)
 
-pub pairs_fit : (text : List ℕ) → pairs_of text ≤ length text
-pairs_fit text = omega (arith, pairs_few (lexemes_of text), spaced_count None (lexemes_of text) (formed text), respaced_fits text)
+pub tokens_few : (text : List ℕ) → length (tokens_of text) ≤ length text
+tokens_few text =
+    omega (arith, spaced_count None (lexemes_of text) (formed text), respaced_fits text, length-map (tokens_of text) lexeme)
 
 pub pairs_within : (text : List ℕ) → pairs_of text ≤ length (tokens_of text)
 pairs_within text = omega (arith, pairs_few (lexemes_of text), length-map (tokens_of text) lexeme)
+
+pub pairs_fit : (text : List ℕ) → pairs_of text ≤ length text
+pairs_fit text = omega (arith, pairs_within text, tokens_few text)
 
 -- One turn of a loop that appends token after token: `ahead` are the tokens to come, `goal` the bytes in the end.
 module _ (out : List ℕ) (last : Option TokenKind) (ahead rest : List Placed) (t : Placed) (next : ahead ≡ t ∷ rest) where

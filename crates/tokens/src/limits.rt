@@ -47,16 +47,23 @@ fn check_tokens(text: &[u8]) -> Result<(), Fault>
     ensures answer { TokenLimits text.now result }
     ensures within { OnOk result ((length (tokens_of text.now) ≤ 1024) × LongWordIn (tokens_of text.now) None) }
 {
-    if let Some(token) = Cutter::new(text).nth(MAX_TOKENS) {
-        return Err(Fault {
-            kind: FaultKind::TooManyTokens,
-            place: token.place(),
-        });
+    // One walk over the tokens: two searches, `nth` and `find`, take more than twice the time.
+    let mut long_word = None;
+    for (count, token) in Cutter::new(text).enumerate() {
+        if count == MAX_TOKENS {
+            return Err(Fault {
+                kind: FaultKind::TooManyTokens,
+                place: token.place(),
+            });
+        }
+        if is_long_word(token) {
+            long_word = long_word.or(Some(token.place()));
+        }
     }
-    match Cutter::new(text).find(|token| is_long_word(*token)) {
-        Some(word) => Err(Fault {
+    match long_word {
+        Some(place) => Err(Fault {
             kind: FaultKind::WordTooLong,
-            place: word.place(),
+            place,
         }),
         None => Ok(()),
     }

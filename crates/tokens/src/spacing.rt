@@ -54,6 +54,7 @@ pub fn push_respaced(out: &mut Vec<u8>, text: &[u8]) -> Result<usize, AllocError
     ensures succeeds { vec_len out.old + length text.now ≤ vec_capacity out.old → is_ok result ≡ true }
 {
     out.reserve(text.len())?;
+    // A loop: a fold would carry `out`, the kind before and the count as one tuple, and read no plainer.
     let mut last = None;
     let mut pairs = 0;
     for token in Cutter::new(text) {

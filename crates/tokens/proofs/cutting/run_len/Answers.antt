@@ -1,13 +1,11 @@
-use Rattle.std.proofs.Common.{rules, ◌≡◌, ℕ, ◌+◌, ◌≤◌, ◌∷◌, length, take, drop, ◌∙◌, slice_get, Some, Bool, true, false, List, [], ◌++◌, MatchBool, tests, arith}
+use Rattle.std.proofs.Common.{rules, ◌≡◌, ◌∙◌, tests}
 use Rattle.std.specs.List.{prefix_len}
 use Rattle.std.proofs.lemmas.List.Folds.{length-prefix_len}
 use Rattle.std.proofs.lemmas.List.Sums.{prefix_len-le-length}
 use Rattle.std.proofs.lemmas.Iterator.{YieldsList-from_slice}
 use Rattle.std.proofs.lemmas.Iterator.Consumers.{count_from_yields_List, YieldsList-at}
 use Rattle.std.proofs.lemmas.Iterator.Search.{YieldsList-from_take_while}
-use Rattle.std.proofs.lemmas.Grind.{common_steps}
-use Rattle.tokens.specs.Tokens.{kind_of, kind_in}
-use Rattle.tokens.specs.Bytes.{class_of}
+use Rattle.tokens.specs.Tokens.{kind_of}
 use Rattle.tokens.proofs.Runs.{is_of, front_alike, front_longest}
 use Rattle.tokens.proofs.cutting.run_len.Goals as goal
 
