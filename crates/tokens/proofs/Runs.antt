@@ -1,4 +1,4 @@
--- A run of bytes in a text, found by its two ends, is a token of it.
+-- What a text begins with: separators, which are passed over, and a run of one kind or a bracket, which is its first token.
 use Rattle.std.proofs.Common.{◌≡◌, ℕ, suc, ◌+◌, ◌-◌, ◌<◌, ◌≤◌, Bool, true, false, Option, List, [], ◌∷◌, ◌≢◌, length, get_or, take, drop, slice_get, Some, None, sym, refl, ap, ◌∙◌, subst, ⊎_elim, arith}
 use Rattle.std.specs.List.{AllByRecursion, prefix_len}
 use Rattle.std.specs.Option.{option_eq, IfSome}
