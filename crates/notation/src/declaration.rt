@@ -1,6 +1,6 @@
 // Declarations: a line of function, priority, type and spelling, parted by single spaces.
 ghost use Rattle.std.specs.Prelude.{◌≡◌, ℕ, List, ◌∷◌, ◌++◌, Decides, MatchOption, ◌≢◌};
-ghost use Rattle.notation.specs.Lines.{Field, Fields, Parted, Number, Names};
+ghost use Rattle.notation.specs.Lines.{Field, Fields, Parted, Number};
 ghost use Rattle.notation.specs.Declarations.{LineRules};
 ghost use Rattle.notation.specs.Views.{fields_of, DeclarationOf};
 
@@ -90,26 +90,6 @@ fn number_of(digits: &[u8]) -> Option<u16>
         value = value * 10 + u16::from(*digit - b'0');
     }
     Some(value)
-}
-
-impl TryFrom<&[u8]> for Form {
-    type Error = FaultKind;
-
-    ghost try_from_gives = { Names };
-
-    // The type with this word. Refuses a word that is none of the seven.
-    fn try_from(word: &[u8]) -> Result<Form, FaultKind> {
-        match word {
-            b"fx" => Ok(Form::Fx),
-            b"fy" => Ok(Form::Fy),
-            b"xf" => Ok(Form::Xf),
-            b"yf" => Ok(Form::Yf),
-            b"xfx" => Ok(Form::Xfx),
-            b"xfy" => Ok(Form::Xfy),
-            b"yfx" => Ok(Form::Yfx),
-            _ => Err(FaultKind::UnknownType),
-        }
-    }
 }
 
 // What the line declares. Refuses a line without four fields or with a number out of form, and a
