@@ -1,4 +1,4 @@
-use Rattle.std.proofs.Common.{◌≡◌, ℕ, ◌<◌, length, get_or, Some, None, Option, sym, refl, ap, ◌∙◌, subst, arith, rules}
+use Rattle.std.proofs.Common.{◌≡◌, ℕ, ◌<◌, length, get_or, None, Option, sym, refl, ap, ◌∙◌, subst, arith, rules}
 use Rattle.std.specs.Option.{option_map}
 use Rattle.std.proofs.lemmas.List.{get_or_default}
 use Rattle.std.proofs.lemmas.Bool.{both_ways}
@@ -7,7 +7,7 @@ use Rattle.notation.specs.Slots.{op_in}
 use Rattle.notation.specs.Tables.{is_listed}
 use Rattle.notation.specs.Views.{sealed_table}
 use Rattle.notation.specs.Laws.{lawful_in}
-use Rattle.notation.proofs.Chained.{Along, along_start, along_end, along_within, along_begins, along_more, ahead, along_less}
+use Rattle.notation.proofs.Chained.{along_end, along_within, along_begins, along_more, ahead, along_less}
 use Rattle.notation.specs.LookupsLemmas.{test_listed, listed_test, is_listed_lem, listed_none, inside}
 use Rattle.notation.proofs.Seals.{none_empty}
 use Rattle.notation.proofs.sealed.SealedListNotation.listed.Goals as goal
