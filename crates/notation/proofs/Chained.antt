@@ -38,15 +38,12 @@ pub record ChainedFrom (t : Table) (firsts nexts : List (Option ℕ)) (i : ℕ) 
   pub first : (b : ℕ) → b < 256 → get_or firsts b None ≡ seek t b i (64 - i)
   pub next : (f b : ℕ) → i ≤ f → f < 64 → begins_with b (t f) ≡ true → get_or nexts f None ≡ seek t b (f + 1) (63 - f)
 
-module _ (t : Table) (firsts nexts : List (Option ℕ)) (i : ℕ) (some : 0 < i) (h : ChainedFrom t firsts nexts i) where
-  one_back : (b : ℕ) (v : Bool) → begins_with b (t (i - 1)) ≡ v → seek t b (i - 1) (64 - (i - 1)) ≡ cond v (Some (i - 1)) (seek t b i (64 - i))
-  one_back b v e =
-      let size : 64 - (i - 1) ≡ suc (64 - i) = omega (arith, h.within) in
-      let on : i - 1 + 1 ≡ i = omega arith in
-      ap (seek t b (i - 1)) size ∙ here_or_on t b (i - 1) (64 - i) v e ∙ ap (λ j. cond v (Some (i - 1)) (seek t b j (64 - i))) on
+module _ (t : Table) (firsts nexts : List (Option ℕ)) (n : ℕ) (h : ChainedFrom t firsts nexts (n + 1)) where
+  one_back : (b : ℕ) (v : Bool) → begins_with b (t n) ≡ v → seek t b n (64 - n) ≡ cond v (Some n) (seek t b (n + 1) (64 - (n + 1)))
+  one_back b v e = let size : 64 - n ≡ suc (64 - (n + 1)) = omega (arith, h.within) in ap (seek t b n) size ∙ here_or_on t b n (64 - (n + 1)) v e
 
   -- an empty slot
-  pub chained_past : t (i - 1) ≡ None → ChainedFrom t firsts nexts (i - 1)
+  pub chained_past : t n ≡ None → ChainedFrom t firsts nexts n
   chained_past none =
       record {
         within = omega (arith, h.within);
@@ -54,35 +51,35 @@ module _ (t : Table) (firsts nexts : List (Option ℕ)) (i : ℕ) (some : 0 < i)
         functions = h.functions;
         first = λ b lt. h.first b lt ∙ sym (one_back b false (ap (begins_with b) none));
         next = λ f b low high begins.
-            ⊎_elim (λ same. absurd (both_ways (begins_with b (t f)) (ap (λ g. begins_with b (t g)) same ∙ ap (begins_with b) none) begins)) (λ other. h.next f b (omega (arith, other)) high begins) (cases_eq f (i - 1));
+            ⊎_elim (λ same. absurd (both_ways (begins_with b (t f)) (ap (λ g. begins_with b (t g)) same ∙ ap (begins_with b) none) begins)) (λ other. h.next f b (omega (arith, other)) high begins) (cases_eq f n);
       }
 
   -- a slot whose operator begins with the byte c
-  pub chained_more : (o : Op) (c : ℕ) → t (i - 1) ≡ Some o → c ≡ get_or o.spelling 0 0 → c < 256 → ChainedFrom t (set firsts c (Some (i - 1))) (set nexts (i - 1) (get_or firsts c None)) (i - 1)
+  pub chained_more : (o : Op) (c : ℕ) → t n ≡ Some o → c ≡ get_or o.spelling 0 0 → c < 256 → ChainedFrom t (set firsts c (Some n)) (set nexts n (get_or firsts c None)) n
   chained_more o c has first-is small =
       record {
         within = omega (arith, h.within);
-        bytes = length-set firsts c (Some (i - 1)) ∙ h.bytes;
-        functions = length-set nexts (i - 1) (get_or firsts c None) ∙ h.functions;
+        bytes = length-set firsts c (Some n) ∙ h.bytes;
+        functions = length-set nexts n (get_or firsts c None) ∙ h.functions;
         first = λ b lt.
             ⊎_elim
             (λ same.
-            ap (λ j. get_or (set firsts c (Some (i - 1))) j None) same ∙ get_or-set_same firsts c (Some (i - 1)) None (omega (arith, h.bytes))
+            ap (λ j. get_or (set firsts c (Some n)) j None) same ∙ get_or-set_same firsts c (Some n) None (omega (arith, h.bytes))
             ∙ sym (one_back b true (ap (begins_with b) has ∙ eq-eqb (get_or o.spelling 0 0) b (sym first-is ∙ sym same))))
             (λ other.
-            get_or-set_other firsts c b (Some (i - 1)) None other ∙ h.first b lt
+            get_or-set_other firsts c b (Some n) None other ∙ h.first b lt
             ∙ sym (one_back b false (ap (begins_with b) has ∙ ne_eqb (get_or o.spelling 0 0) b (λ e. other (sym e ∙ sym first-is)))))
             (cases_eq b c);
         next = λ f b low high begins.
             ⊎_elim
             (λ same.
             let byte : c ≡ b = first-is ∙ eqb-true (get_or o.spelling 0 0) b (sym (ap (λ g. begins_with b (t g)) same ∙ ap (begins_with b) has) ∙ begins) in
-            let from : i ≡ f + 1 = omega arith in
-            let size : 64 - i ≡ 63 - f = omega arith in
-            ap (λ j. get_or (set nexts (i - 1) (get_or firsts c None)) j None) same ∙ get_or-set_same nexts (i - 1) (get_or firsts c None) None (omega (arith, h.functions, h.within))
+            let from : n + 1 ≡ f + 1 = omega arith in
+            let size : 64 - (n + 1) ≡ 63 - f = omega arith in
+            ap (λ j. get_or (set nexts n (get_or firsts c None)) j None) same ∙ get_or-set_same nexts n (get_or firsts c None) None (omega (arith, h.functions, h.within))
             ∙ h.first c small ∙ (λ k. seek t (byte k) (from k) (size k)))
-            (λ other. get_or-set_other nexts (i - 1) f (get_or firsts c None) None other ∙ h.next f b (omega (arith, other)) high begins)
-            (cases_eq f (i - 1));
+            (λ other. get_or-set_other nexts n f (get_or firsts c None) None other ∙ h.next f b (omega (arith, other)) high begins)
+            (cases_eq f n);
       }
 
 -- a search along the chain of a byte has come to `at`, and passed nothing that is listed

@@ -25,8 +25,8 @@ fn link(list: &OpenList) -> Chains
 {
     let mut firsts = [None; BYTES];
     let mut nexts = [None; FUNCTIONS];
-    for function in (0..FUNCTIONS).rev() {
-        if let Some(entry) = &list.slots[function] {
+    for (function, slot) in list.slots.iter().enumerate().rev() {
+        if let Some(entry) = slot {
             let byte = usize::from(entry.bytes[0]);
             nexts[function] = firsts[byte];
             firsts[byte] = Some(function as u8);
