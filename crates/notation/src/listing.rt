@@ -2,10 +2,11 @@
 ghost use Rattle.std.specs.Prelude.{◌≡◌, ℕ, Decides};
 ghost use Rattle.notation.specs.Declarations.{Mixes};
 ghost use Rattle.notation.specs.Operators.{told};
+ghost use Rattle.notation.specs.Slots.{op_in};
 ghost use Rattle.notation.specs.Tables.{listed};
-ghost use Rattle.notation.specs.Views.{declared_op, open_table};
+ghost use Rattle.notation.specs.Views.{open_table};
 
-use crate::declaration::Declaration;
+use crate::entry::Entry;
 use crate::form::Position;
 use crate::list::OpenList;
 use crate::operator::Operator;
@@ -31,15 +32,10 @@ impl OpenList {
         Some(function as u8)
     }
 
-    // Whether the declared operator would mix a level with one of the list.
-    pub(crate) fn mixes(&self, declaration: Declaration<'_>) -> bool
-        ensures { Decides result ((g : ℕ) × Mixes (open_table self.now) (declared_op declaration.entry) g) }
+    // Whether the operator would mix a level with one of the list.
+    pub(crate) fn mixes(&self, entry: &Entry) -> bool
+        ensures { Decides result ((g : ℕ) × Mixes (open_table self.now) (op_in entry.now) g) }
     {
-        for slot in self.slots.iter() {
-            if slot_mixes(slot, declaration) {
-                return true;
-            }
-        }
-        false
+        self.slots.iter().any(|slot| slot_mixes(slot, entry))
     }
 }
