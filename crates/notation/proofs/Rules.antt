@@ -55,7 +55,7 @@ same_fault is = cc
 -- what a declaration that was read says, before the rules after those of a line
 module _ (line : List ℕ) {T : Type 0} (otherwise : ℕ → Op → Result T Fault → Type 0) where
   pub line_refused : (e : Fault) → LineRules line DeclarationOf (Err e) → LineRules line otherwise (Err e)
-  line_refused e (inl (d, says, inl (m, word, never))) = absurd never
+  line_refused e (inl (_, _, inl (_, _, never))) = absurd never
   line_refused e (inl (d, says, inr (none, is))) = inl (d, says, inr (none, ap Err (same_fault is)))
   line_refused e (inr (none, is)) = inr (none, ap Err (same_fault is))
 

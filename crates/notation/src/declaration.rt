@@ -11,6 +11,7 @@ use tokens::{Fault, FaultKind};
 const MAX_DIGITS: usize = 4;
 
 // The place of a fault is a field, counted from 1, or the whole line.
+// Numbers: a place is told as one, so an enum would only be turned back into these.
 const WHOLE_LINE: usize = 0;
 
 pub(crate) const FUNCTION_FIELD: usize = 1;
@@ -82,6 +83,7 @@ fn number_of(digits: &[u8]) -> Option<u16>
     if digits.is_empty() || digits.len() > MAX_DIGITS {
         return None;
     }
+    // A `for`: the closure of a fold would know no bound on the value.
     let mut value = 0;
     for digit in digits {
         if !digit.is_ascii_digit() {

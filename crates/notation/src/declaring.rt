@@ -2,24 +2,14 @@
 ghost use Rattle.std.specs.Prelude.{◌≡◌, ℕ, None, Ok, OnErr, OnOk};
 ghost use Rattle.tokens.specs.InOrder.{Only};
 ghost use Rattle.notation.specs.Declarations.{TableRules, Declares, Added, extended};
-ghost use Rattle.notation.specs.Slots.{op_in, table_in};
-ghost use Rattle.notation.specs.Tables.{LawfulTable};
+ghost use Rattle.notation.specs.Slots.{op_in};
 ghost use Rattle.notation.specs.Views.{open_table};
 
 use crate::candidate::Candidate;
 use crate::declaration::{FUNCTION_FIELD, PRIORITY_FIELD, SPELLING_FIELD, read_declaration};
-use crate::entry::Entry;
 use crate::function::FUNCTIONS;
 use crate::list::OpenList;
 use tokens::{Fault, FaultKind};
-
-// Slots without operators.
-fn empty_slots() -> [Option<Entry>; FUNCTIONS]
-    ensures empty { (f : ℕ) → table_in result f ≡ None }
-    ensures lawful { ∥ LawfulTable (table_in result) ∥₁ }
-{
-    [None; FUNCTIONS]
-}
 
 impl OpenList {
     // A list without operators.
@@ -27,7 +17,7 @@ impl OpenList {
         ensures { (f : ℕ) → open_table result f ≡ None }
     {
         OpenList {
-            slots: empty_slots(),
+            slots: [None; FUNCTIONS],
         }
     }
 

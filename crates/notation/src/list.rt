@@ -11,6 +11,7 @@ use crate::function::FUNCTIONS;
 pub(crate) const BYTES: usize = 256;
 
 // A list that operators can be declared into. It is no notation until it is sealed.
+// An array, with a slot for each function: declaring may not want memory.
 #[derive(Drop)]
 pub struct OpenList {
     pub(crate) slots: [Option<Entry>; FUNCTIONS],
@@ -20,6 +21,7 @@ pub struct OpenList {
 // A list of operators that does not change any more. For each byte `firsts` has the first function whose
 // spelling begins with it, if there is one, and for each function `nexts` has the next one whose spelling begins as
 // its own does. So a spelling is compared only with those that begin as it does.
+// Arrays, and no map: sealing may not want memory.
 #[derive(Drop)]
 pub struct SealedList {
     pub(crate) list: OpenList,
