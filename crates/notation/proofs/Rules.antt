@@ -6,13 +6,15 @@ use Rattle.tokens.specs.declared.fault.FaultKind.TheVariants.{MalformedDeclarati
 use Rattle.tokens.specs.Faults.{fault}
 use Rattle.tokens.specs.InOrder.{IfSome, Only, Refused, Accepted}
 use Rattle.tokens.proofs.Firsts.{if_one, if_some_one}
+use Rattle.notation.specs.declared.candidate.Candidate.{Candidate}
 use Rattle.notation.specs.declared.declaration.Declaration.{Declaration}
 use Rattle.notation.specs.declared.form.Form.{Form}
 use Rattle.notation.specs.Declarations.{Fits, InRange, Mixes, Unless, UnlessSome, LineRules, Answer, OperatorRules, TableRules, Declares, Added, extended}
 use Rattle.notation.specs.Lines.{Fields, Parted, Number, Said, Says, word_of, said_op}
 use Rattle.notation.specs.Operators.{Op, position_of, Spelling}
-use Rattle.notation.specs.Tables.{Table, LawfulOp, Listed, LawfulTable, listed}
-use Rattle.notation.specs.Views.{declared_op, DeclarationOf}
+use Rattle.notation.specs.Tables.{Table, Listed, LawfulTable, listed}
+use Rattle.notation.specs.Slots.{op_in}
+use Rattle.notation.specs.Views.{declared_op, DeclarationOf, CandidateOf}
 use Rattle.notation.specs.Additions.{FreeIn}
 use Rattle.notation.proofs.Lines.{parted_one, says_one, word_one}
 use Rattle.notation.specs.LookupsLemmas.{listed_is, is_listed_lem}
@@ -47,18 +49,15 @@ module _ {T : Type 0} (line : List ℕ) (otherwise : ℕ → Op → Result T Fau
 never_both : {T : Type 0} (x : T) (e : Fault) → ◌≡◌ {A = Result T Fault} (Ok x) (Err e) → ⊥
 never_both x e clash = let z : ◌≡◌ {A = ℕ} 0 1 = cc in omega arith
 
+same_fault : {T : Type 0} {e f : Fault} → ◌≡◌ {A = Result T Fault} (Err e) (Err f) → e ≡ f
+same_fault is = cc
+
 -- what a declaration that was read says, before the rules after those of a line
 module _ (line : List ℕ) {T : Type 0} (otherwise : ℕ → Op → Result T Fault → Type 0) where
   pub line_refused : (e : Fault) → LineRules line DeclarationOf (Err e) → LineRules line otherwise (Err e)
-  line_refused e (inl (d, says, inl (m, word, never))) = absurd never
+  line_refused e (inl (_, _, inl (_, _, never))) = absurd never
   line_refused e (inl (d, says, inr (none, is))) = inl (d, says, inr (none, ap Err (same_fault is)))
-    where
-      same_fault : {f : Fault} → ◌≡◌ {A = Result Declaration Fault} (Err e) (Err f) → e ≡ f
-      same_fault is = cc
   line_refused e (inr (none, is)) = inr (none, ap Err (same_fault is))
-    where
-      same_fault : {f : Fault} → ◌≡◌ {A = Result Declaration Fault} (Err e) (Err f) → e ≡ f
-      same_fault is = cc
 
   pub line_then : (d : Declaration) → LineRules line DeclarationOf (Ok d) → (r : Result T Fault) → otherwise d.function (declared_op d) r → LineRules line otherwise r
   line_then d (inl (x, says, inl (m, word, (function, op)))) r h =
@@ -78,25 +77,26 @@ line_added line d (inl (x, says, inl (m, word, (function, op)))) t u e =
 line_added line d (inl (x, _, inr (none, is))) t u e = absurd (never_both _ _ is)
 line_added line d (inr (none, is)) t u e = absurd (never_both _ _ is)
 
--- The rules of a function and an operator, before others.
-module _ (f : ℕ) (o : Op) where
-  pub operator_refused : (otherwise : Answer → Type 0) (e : Fault) → OperatorRules f o (Accepted tt) (Err e) → OperatorRules f o otherwise (Err e)
-  operator_refused otherwise e (inl (fits, inl (range, inl (spelling, never)))) = absurd (never_both tt e (sym never))
-  operator_refused otherwise e (inl (fits, inl (range, inr h))) = inl (fits, inl (range, inr h))
-  operator_refused otherwise e (inl (fits, inr h)) = inl (fits, inr h)
-  operator_refused otherwise e (inr h) = inr h
+-- The rules of a function and an operator, before those of their place in a table.
+module _ (f : ℕ) (o : Op) (otherwise : ℕ → Op → Answer → Type 0) where
+  pub operator_refused : (e : Fault) → OperatorRules f o (CandidateOf f o) (Err e) → OperatorRules f o (otherwise f o) (Err e)
+  operator_refused e (inl (fits, inl (range, inl (spelling, never)))) = absurd never
+  operator_refused e (inl (fits, inl (range, inr (none, is)))) = inl (fits, inl (range, inr (none, ap Err (same_fault is))))
+  operator_refused e (inl (fits, inr (none, is))) = inl (fits, inr (none, ap Err (same_fault is)))
+  operator_refused e (inr (none, is)) = inr (none, ap Err (same_fault is))
 
-  pub operator_then : (otherwise : Answer → Type 0) (r : Answer) → OperatorRules f o (Accepted tt) (Ok tt) → otherwise r → OperatorRules f o otherwise r
-  operator_then otherwise r (inl (fits, inl (range, inl (spelling, _)))) h = inl (fits, inl (range, inl (spelling, h)))
-  operator_then otherwise r (inl (fits, inl (range, inr (_, never)))) h = absurd (never_both tt _ never)
-  operator_then otherwise r (inl (fits, inr (_, never))) h = absurd (never_both tt _ never)
-  operator_then otherwise r (inr (_, never)) h = absurd (never_both tt _ never)
+  pub operator_then : (c : Candidate) → OperatorRules f o (CandidateOf f o) (Ok c) → (r : Answer) → otherwise c.function (op_in c.entry) r → OperatorRules f o (otherwise f o) r
+  operator_then c (inl (fits, inl (range, inl (spelling, (function, op))))) r h =
+      inl (fits, inl (range, inl (spelling, subst (λ (q : Op). otherwise f q r) op (subst (λ g. otherwise g (op_in c.entry) r) function h))))
+  operator_then c (inl (fits, inl (range, inr (_, never)))) r h = absurd (never_both _ _ never)
+  operator_then c (inl (fits, inr (_, never))) r h = absurd (never_both _ _ never)
+  operator_then c (inr (_, never)) r h = absurd (never_both _ _ never)
 
-  pub operator_lawful : OperatorRules f o (Accepted tt) (Ok tt) → LawfulOp f o
-  operator_lawful (inl (fits, inl (range, inl (spelling, _)))) = record { function = fits.0; operands = fits.1; low = range.0; high = range.1; spelling = spelling }
-  operator_lawful (inl (fits, inl (range, inr (_, never)))) = absurd (never_both tt _ never)
-  operator_lawful (inl (fits, inr (_, never))) = absurd (never_both tt _ never)
-  operator_lawful (inr (_, never)) = absurd (never_both tt _ never)
+pub candidate_of : (f : ℕ) (o : Op) (c : Candidate) → OperatorRules f o (CandidateOf f o) (Ok c) → CandidateOf f o (Ok c)
+candidate_of f o c (inl (fits, inl (range, inl (spelling, is)))) = is
+candidate_of f o c (inl (fits, inl (range, inr (_, never)))) = absurd (never_both _ _ never)
+candidate_of f o c (inl (fits, inr (_, never))) = absurd (never_both _ _ never)
+candidate_of f o c (inr (_, never)) = absurd (never_both _ _ never)
 
 -- The rules of a table.
 some_from : {X : Type 0} (x : Option X) → is_some x ≡ true → (y : X) × (x ≡ Some y)

@@ -43,14 +43,14 @@ module _ {T : Type 0} where
       UnlessSome (Says line) (fault MalformedDeclaration 0)
       (λ d. UnlessSome (λ m. d.word ≡ word_of m) (fault UnknownType 3) (λ m. otherwise d.function (said_op d m)))
 
+  -- the rules of a function and an operator by themselves, and then others
+  abbrev pub OperatorRules : ℕ → Op → (Result T Fault → Type 0) → Result T Fault → Type 0
+  OperatorRules f o otherwise =
+      Unless (Fits f o.form) (fault WrongFunction 1)
+      (Unless (InRange o.priority) (fault PriorityOutOfRange 2) (Unless (Spelling o.spelling) (fault MalformedSpelling 4) otherwise))
+
 abbrev pub Answer : Type 0
 Answer = Result (Unit {0}) Fault
-
--- the rules of a function and an operator by themselves, and then others
-abbrev pub OperatorRules : ℕ → Op → (Answer → Type 0) → Answer → Type 0
-OperatorRules f o otherwise =
-    Unless (Fits f o.form) (fault WrongFunction 1)
-    (Unless (InRange o.priority) (fault PriorityOutOfRange 2) (Unless (Spelling o.spelling) (fault MalformedSpelling 4) otherwise))
 
 -- the rules of their place in a table
 abbrev pub TableRules : Table → ℕ → Op → Answer → Type 0

@@ -74,7 +74,7 @@ token_one s (inr p) (inr q) = λ i. inr (well_formed_one K.Word s p.0 q.0 i, no_
 spelling_one : (s : List ℕ) → IsProp (Spelling s)
 spelling_one s p q = λ i. record { short = le_prop p.short q.short i; token = token_one s p.token q.token i }
 
-op_one : (f : ℕ) (o : Op) → IsProp (LawfulOp f o)
+pub op_one : (f : ℕ) (o : Op) → IsProp (LawfulOp f o)
 op_one f o p q = λ i.
     record {
       function = le_prop p.function q.function i;

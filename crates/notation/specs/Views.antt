@@ -1,13 +1,14 @@
 -- What the values of the code stand for.
 use Rattle.std.specs.Prelude.{◌≡◌, ℕ, Ok, Err, Result}
 use Rattle.tokens.specs.declared.fault.Fault.{Fault}
+use Rattle.notation.specs.declared.candidate.Candidate.{Candidate}
 use Rattle.notation.specs.declared.declaration.Declaration.{Declaration}
 use Rattle.notation.specs.declared.declaration.RawFields.{RawFields}
 use Rattle.notation.specs.declared.list.OpenList.{OpenList}
 use Rattle.notation.specs.declared.list.SealedList.{SealedList}
 use Rattle.notation.specs.Lines.{Fields}
 use Rattle.notation.specs.Operators.{Op}
-use Rattle.notation.specs.Slots.{table_in}
+use Rattle.notation.specs.Slots.{op_in, table_in}
 use Rattle.notation.specs.Tables.{Table}
 
 abbrev pub fields_of : RawFields → Fields
@@ -21,6 +22,11 @@ declared_op d = record { priority = d.priority; form = d.form; spelling = d.spel
 abbrev pub DeclarationOf : ℕ → Op → Result Declaration Fault → Type 0
 DeclarationOf f o (Ok d) = (d.function ≡ f) × (declared_op d ≡ o)
 DeclarationOf f o (Err e) = ⊥
+
+-- the answer is a candidate, of the function and the operator
+abbrev pub CandidateOf : ℕ → Op → Result Candidate Fault → Type 0
+CandidateOf f o (Ok c) = (c.function ≡ f) × (op_in c.entry ≡ o)
+CandidateOf f o (Err e) = ⊥
 
 -- the tables of lists
 abbrev pub open_table : OpenList → Table

@@ -1,12 +1,12 @@
 // Checks of a declaration by itself: its function, its priority and its spelling.
 ghost use Rattle.std.specs.Prelude.{not, Decides};
-ghost use Rattle.tokens.specs.InOrder.{Accepted};
 ghost use Rattle.notation.specs.Declarations.{Fits, OperatorRules};
 ghost use Rattle.notation.specs.Operators.{NoDigitFirst, Spelling};
-ghost use Rattle.notation.specs.Views.{declared_op};
+ghost use Rattle.notation.specs.Views.{declared_op, CandidateOf};
 
+use crate::candidate::Candidate;
 use crate::declaration::{Declaration, FUNCTION_FIELD, PRIORITY_FIELD, SPELLING_FIELD};
-use crate::entry::MAX_SPELLING_BYTES;
+use crate::entry::{Entry, MAX_SPELLING_BYTES};
 use crate::form::Form;
 use crate::function::{FUNCTIONS, operands_of};
 use tokens::{Cutter, Fault, FaultKind, Token};
@@ -27,10 +27,7 @@ fn fits(function: u16, form: Form) -> bool
 fn digit_first(word: &[u8]) -> bool
     ensures { Decides (not result) (NoDigitFirst word.now) }
 {
-    match word {
-        [first, ..] => first.is_ascii_digit(),
-        [] => false,
-    }
+    word.first().is_some_and(|byte| byte.is_ascii_digit())
 }
 
 // Whether the bytes are a spelling: one symbol, or one word that does not begin with a digit, and
@@ -52,28 +49,35 @@ fn is_spelling(bytes: &[u8]) -> bool
     }
 }
 
-// Refuses a function that there is not or that takes another number of operands, a priority out of
-// range, and a malformed spelling.
-pub(crate) fn check_operator(declaration: Declaration<'_>) -> Result<(), Fault>
-    ensures { OperatorRules declaration.entry.function (declared_op declaration.entry) (Accepted tt) result }
-{
-    if !fits(declaration.function, declaration.form) {
-        return Err(Fault {
-            kind: FaultKind::WrongFunction,
-            place: FUNCTION_FIELD,
-        });
+impl TryFrom<Declaration<'_>> for Candidate {
+    type Error = Fault;
+
+    ghost try_from_gives = { λ d r. OperatorRules d.function (declared_op d) (CandidateOf d.function (declared_op d)) r };
+
+    // Refuses a function that there is not or that takes another number of operands, a priority out
+    // of range, and a malformed spelling.
+    fn try_from(declaration: Declaration<'_>) -> Result<Candidate, Fault> {
+        if !fits(declaration.function, declaration.form) {
+            return Err(Fault {
+                kind: FaultKind::WrongFunction,
+                place: FUNCTION_FIELD,
+            });
+        }
+        if !(MIN_PRIORITY..=MAX_PRIORITY).contains(&declaration.priority) {
+            return Err(Fault {
+                kind: FaultKind::PriorityOutOfRange,
+                place: PRIORITY_FIELD,
+            });
+        }
+        if !is_spelling(declaration.spelling) {
+            return Err(Fault {
+                kind: FaultKind::MalformedSpelling,
+                place: SPELLING_FIELD,
+            });
+        }
+        Ok(Candidate {
+            function: declaration.function as u8,
+            entry: Entry::new(declaration),
+        })
     }
-    if declaration.priority < MIN_PRIORITY || declaration.priority > MAX_PRIORITY {
-        return Err(Fault {
-            kind: FaultKind::PriorityOutOfRange,
-            place: PRIORITY_FIELD,
-        });
-    }
-    if !is_spelling(declaration.spelling) {
-        return Err(Fault {
-            kind: FaultKind::MalformedSpelling,
-            place: SPELLING_FIELD,
-        });
-    }
-    Ok(())
 }

@@ -1,27 +1,15 @@
 // Declaring operators into an open list.
-ghost use Rattle.std.specs.Prelude.{◌≡◌, ℕ, ◌<◌, None, Ok, OnErr, OnOk};
-ghost use Rattle.tokens.specs.InOrder.{Only, Accepted};
-ghost use Rattle.notation.specs.Declarations.{OperatorRules, TableRules, Declares, Added, extended};
-ghost use Rattle.notation.specs.Slots.{table_in};
-ghost use Rattle.notation.specs.Tables.{LawfulTable};
-ghost use Rattle.notation.specs.Views.{declared_op, open_table};
+ghost use Rattle.std.specs.Prelude.{◌≡◌, ℕ, None, Ok, OnErr, OnOk};
+ghost use Rattle.tokens.specs.InOrder.{Only};
+ghost use Rattle.notation.specs.Declarations.{TableRules, Declares, Added, extended};
+ghost use Rattle.notation.specs.Slots.{op_in};
+ghost use Rattle.notation.specs.Views.{open_table};
 
-use crate::checking::check_operator;
-use crate::declaration::{
-    Declaration, FUNCTION_FIELD, PRIORITY_FIELD, SPELLING_FIELD, read_declaration,
-};
-use crate::entry::Entry;
+use crate::candidate::Candidate;
+use crate::declaration::{FUNCTION_FIELD, PRIORITY_FIELD, SPELLING_FIELD, read_declaration};
 use crate::function::FUNCTIONS;
 use crate::list::OpenList;
 use tokens::{Fault, FaultKind};
-
-// Slots without operators.
-fn empty_slots() -> [Option<Entry>; FUNCTIONS]
-    ensures empty { (f : ℕ) → table_in result f ≡ None }
-    ensures lawful { ∥ LawfulTable (table_in result) ∥₁ }
-{
-    [None; FUNCTIONS]
-}
 
 impl OpenList {
     // A list without operators.
@@ -29,25 +17,25 @@ impl OpenList {
         ensures { (f : ℕ) → open_table result f ≡ None }
     {
         OpenList {
-            slots: empty_slots(),
+            slots: [None; FUNCTIONS],
         }
     }
 
     // Refuses a function that is listed already, a spelling that is taken in its position, and a
     // type that would mix a level.
-    fn check_free(&self, declaration: Declaration<'_>) -> Result<(), Fault>
-        requires { declaration.function < 64 }
-        ensures { TableRules (open_table self.now) declaration.entry.function (declared_op declaration.entry) result }
+    fn check_free(&self, candidate: Candidate) -> Result<(), Fault>
+        ensures { TableRules (open_table self.now) candidate.function (op_in candidate.entry) result }
     {
-        if self.slots[usize::from(declaration.function)].is_some() {
+        let Candidate { function, entry } = candidate;
+        if self.slots[usize::from(function)].is_some() {
             return Err(Fault {
                 kind: FaultKind::FunctionListed,
                 place: FUNCTION_FIELD,
             });
         }
-        let position = declaration.form.position();
+        let operator = entry.operator();
         if self
-            .listed_from(0, position, declaration.spelling)
+            .listed(operator.form.position(), operator.spelling)
             .is_some()
         {
             return Err(Fault {
@@ -55,7 +43,7 @@ impl OpenList {
                 place: SPELLING_FIELD,
             });
         }
-        if self.mixes(declaration) {
+        if self.mixes(&entry) {
             return Err(Fault {
                 kind: FaultKind::MixedLevel,
                 place: PRIORITY_FIELD,
@@ -64,13 +52,12 @@ impl OpenList {
         Ok(())
     }
 
-    // Adds a declared operator that the rules accept.
-    fn put(&mut self, declaration: Declaration<'_>)
-        requires sound { OperatorRules declaration.function (declared_op declaration) (Accepted tt) (Ok tt) }
-        requires free { TableRules (open_table self.old) declaration.function (declared_op declaration) (Ok tt) }
-        ensures { open_table self.new ≡ extended (open_table self.old) declaration.entry.function (declared_op declaration.entry) }
+    // Adds an operator that is free in the list.
+    fn put(&mut self, candidate: Candidate)
+        requires { TableRules (open_table self.old) candidate.function (op_in candidate.entry) (Ok tt) }
+        ensures { open_table self.new ≡ extended (open_table self.old) candidate.function (op_in candidate.entry) }
     {
-        self.slots[usize::from(declaration.function)] = Some(Entry::new(declaration));
+        self.slots[usize::from(candidate.function)] = Some(candidate.entry);
     }
 
     // Adds the operator that the line declares, or gives the first fault that applies and leaves
@@ -81,9 +68,9 @@ impl OpenList {
         ensures unchanged { OnErr result (self.new ≡ self.old) }
     {
         let declaration = read_declaration(line)?;
-        check_operator(declaration)?;
-        self.check_free(declaration)?;
-        self.put(declaration);
+        let candidate = Candidate::try_from(declaration)?;
+        self.check_free(candidate)?;
+        self.put(candidate);
         Ok(())
     }
 }

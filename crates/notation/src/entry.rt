@@ -7,6 +7,7 @@ use crate::form::Form;
 pub const MAX_SPELLING_BYTES: usize = 12;
 
 // An operator of a declared list. Its spelling is the first `length` of the bytes.
+// Bytes with a length: declaring may not want memory.
 #[derive(Clone, Copy)]
 pub(crate) struct Entry {
     pub(crate) priority: u16,

@@ -1,6 +1,7 @@
 // Functions, operators and notations: the fixed ladder and declared lists.
 #![tactic(auto)]
 
+mod candidate;
 mod checking;
 mod declaration;
 mod declaring;

@@ -12,6 +12,7 @@ pub struct Operator<'a> {
     pub spelling: &'a [u8],
 }
 
+// Two limits by name, as a type has two sides: a parameter for the side would only be told by a constant.
 impl Operator<'_> {
     // The largest weight that its left operand may have.
     pub fn left_limit(self) -> u16

@@ -1,7 +1,6 @@
 // Sealing a list, which makes it a notation.
 ghost use Rattle.std.specs.Prelude.{◌≡◌};
 ghost use Rattle.notation.specs.Chains.{FirstsIn, NextsIn};
-ghost use Rattle.notation.specs.Tables.{listed};
 ghost use Rattle.notation.specs.Views.{open_table, sealed_table};
 ghost use Rattle.notation.specs.Laws.{lawful_in};
 
@@ -15,8 +14,8 @@ use crate::slots::slot_lists;
 // The functions of a list by the first bytes of their spellings.
 #[derive(Clone, Copy)]
 struct Chains {
-    firsts: [u8; BYTES],
-    nexts: [u8; FUNCTIONS],
+    firsts: [Option<u8>; BYTES],
+    nexts: [Option<u8>; FUNCTIONS],
 }
 
 // Links the functions whose spellings begin with the same byte, from the last to the first.
@@ -24,13 +23,13 @@ fn link(list: &OpenList) -> Chains
     ensures firsts { FirstsIn (open_table list.now) result.firsts }
     ensures nexts { NextsIn (open_table list.now) result.nexts }
 {
-    let mut firsts = [FUNCTIONS as u8; BYTES];
-    let mut nexts = [FUNCTIONS as u8; FUNCTIONS];
-    for function in (0..FUNCTIONS).rev() {
-        if let Some(entry) = &list.slots[function] {
+    let mut firsts = [None; BYTES];
+    let mut nexts = [None; FUNCTIONS];
+    for (function, slot) in list.slots.iter().enumerate().rev() {
+        if let Some(entry) = slot {
             let byte = usize::from(entry.bytes[0]);
             nexts[function] = firsts[byte];
-            firsts[byte] = function as u8;
+            firsts[byte] = Some(function as u8);
         }
     }
     Chains { firsts, nexts }
@@ -50,25 +49,6 @@ impl OpenList {
     }
 }
 
-impl SealedList {
-    // The function that is listed under the spelling in the position, if there is one.
-    fn listed(&self, position: Position, spelling: &[u8]) -> Option<u8>
-        ensures { result ≡ listed (sealed_table self.now) position spelling.now }
-    {
-        let [first, ..] = spelling else {
-            return None;
-        };
-        let mut function = usize::from(self.firsts[usize::from(*first)]);
-        while function < FUNCTIONS {
-            if slot_lists(&self.list.slots[function], position, spelling) {
-                return Some(function as u8);
-            }
-            function = usize::from(self.nexts[function]);
-        }
-        None
-    }
-}
-
 impl Notation for SealedList {
     ghost table = { sealed_table };
 
@@ -78,11 +58,16 @@ impl Notation for SealedList {
         self.list.operator(function)
     }
 
-    fn before(&self, spelling: &[u8]) -> Option<u8> {
-        self.listed(Position::Before, spelling)
-    }
-
-    fn after(&self, spelling: &[u8]) -> Option<u8> {
-        self.listed(Position::After, spelling)
+    fn listed(&self, position: Position, spelling: &[u8]) -> Option<u8> {
+        let first = spelling.first()?;
+        let mut next = self.firsts[usize::from(*first)];
+        while let Some(function) = next {
+            let slot = usize::from(function);
+            if slot_lists(&self.list.slots[slot], position, spelling) {
+                return Some(function);
+            }
+            next = self.nexts[slot];
+        }
+        None
     }
 }

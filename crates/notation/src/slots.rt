@@ -48,15 +48,13 @@ impl Entry {
         self.form.position() == position && self.operator().spelling == spelling
     }
 
-    // Whether it and the declared operator have one priority, and one of them y right of f, the
-    // other y left of f.
-    pub(crate) fn mixes(&self, declaration: Declaration<'_>) -> bool
-        ensures { Decides result (Mixed (declared_op declaration.entry) (op_in self.now)) }
+    // Whether the two have one priority, and one of them y right of f, the other y left of f.
+    pub(crate) fn mixes(&self, other: &Entry) -> bool
+        ensures { Decides result (Mixed (op_in other.now) (op_in self.now)) }
     {
-        let form = declaration.form;
-        let crossed = (form.right() == Side::Y && self.form.left() == Side::Y)
-            || (form.left() == Side::Y && self.form.right() == Side::Y);
-        declaration.priority == self.priority && crossed
+        let crossed = (other.form.right() == Side::Y && self.form.left() == Side::Y)
+            || (other.form.left() == Side::Y && self.form.right() == Side::Y);
+        other.priority == self.priority && crossed
     }
 }
 
@@ -64,18 +62,13 @@ impl Entry {
 pub(crate) fn slot_lists(slot: &Option<Entry>, position: Position, spelling: &[u8]) -> bool
     ensures { result ≡ is_listed position spelling.now (option_map op_in slot.now) }
 {
-    match slot {
-        Some(entry) => entry.is_listed(position, spelling),
-        None => false,
-    }
+    slot.as_ref()
+        .is_some_and(|entry| entry.is_listed(position, spelling))
 }
 
-// Whether the slot has an operator that mixes a level with the declared one.
-pub(crate) fn slot_mixes(slot: &Option<Entry>, declaration: Declaration<'_>) -> bool
-    ensures { Decides result ((q : Op) × (option_map op_in slot.now ≡ Some q) × Mixed (declared_op declaration.entry) q) }
+// Whether the slot has an operator that mixes a level with the other one.
+pub(crate) fn slot_mixes(slot: &Option<Entry>, other: &Entry) -> bool
+    ensures { Decides result ((q : Op) × (option_map op_in slot.now ≡ Some q) × Mixed (op_in other.now) q) }
 {
-    match slot {
-        Some(entry) => entry.mixes(declaration),
-        None => false,
-    }
+    slot.as_ref().is_some_and(|entry| entry.mixes(other))
 }

@@ -3,127 +3,120 @@
 
 #[cfg(test)]
 mod tests {
-    use notation::{Ladder, Notation, OpenList};
-    use std::process::Abort;
-    use std::test::Fail;
+    use notation::{Ladder, Notation, OpenList, Position};
 
-    // Declares the line, and compares the number and the place of its fault.
-    fn refused(
-        rt: &impl Abort,
-        list: &mut OpenList,
-        line: &[u8],
-        number: u8,
-        place: usize,
-    ) -> Result<(), Fail> {
-        let Err(fault) = list.declare(line) else {
-            return Err(Fail::new("the line was accepted"));
-        };
-        assert!(rt; fault.kind.letter() == b'D');
-        assert!(rt; fault.kind.number() == number);
-        assert!(rt; fault.place == place);
-        Ok(())
-    }
-
-    // Declares the line, which is lawful; `case` is told if it is refused.
-    fn accepted(rt: &impl Abort, list: &mut OpenList, line: &[u8], case: &str) -> Result<(), Fail> {
-        assert!(rt; list.declare(line).is_ok(), "{case}");
-        Ok(())
+    // Declares the line, and gives the letter, the number and the place of its fault, if it is refused.
+    fn fault(list: &mut OpenList, line: &[u8]) -> Option<(u8, u8, usize)> {
+        let fault = list.declare(line).err()?;
+        Some((fault.kind.letter(), fault.kind.number(), fault.place))
     }
 
     #[test]
-    fn fields_and_numbers(rt: HostRuntime) -> Result<(), Fail> {
+    fn fields_and_numbers(rt: HostRuntime) {
         let mut list = OpenList::new();
-        refused(&rt, &mut list, b"", 10, 0)?;
-        refused(&rt, &mut list, b"0 900 fy", 10, 0)?;
-        refused(&rt, &mut list, b"0 900 fy not x", 10, 0)?;
-        refused(&rt, &mut list, b"0  900 fy not", 10, 0)?;
-        refused(&rt, &mut list, b" 0 900 fy not", 10, 0)?;
-        refused(&rt, &mut list, b"0 900 fy not ", 10, 0)?;
-        refused(&rt, &mut list, b"00000 900 fy not", 10, 0)?;
-        refused(&rt, &mut list, b"0 -900 fy not", 10, 0)?;
-        refused(&rt, &mut list, b"x 900 fy not", 10, 0)?;
-        accepted(&rt, &mut list, b"0000 0900 fy not", "leading zeros")
+        assert_eq!(rt; fault(&mut list, b""), Some((b'D', 10, 0)));
+        assert_eq!(rt; fault(&mut list, b"0 900 fy"), Some((b'D', 10, 0)));
+        assert_eq!(rt; fault(&mut list, b"0 900 fy not x"), Some((b'D', 10, 0)));
+        assert_eq!(rt; fault(&mut list, b"0  900 fy not"), Some((b'D', 10, 0)));
+        assert_eq!(rt; fault(&mut list, b" 0 900 fy not"), Some((b'D', 10, 0)));
+        assert_eq!(rt; fault(&mut list, b"0 900 fy not "), Some((b'D', 10, 0)));
+        assert_eq!(rt; fault(&mut list, b"00000 900 fy not"), Some((b'D', 10, 0)));
+        assert_eq!(rt; fault(&mut list, b"0 -900 fy not"), Some((b'D', 10, 0)));
+        assert_eq!(rt; fault(&mut list, b"x 900 fy not"), Some((b'D', 10, 0)));
+        assert_eq!(rt;
+            fault(&mut list, b"0000 0900 fy not"),
+            None,
+            "leading zeros"
+        );
     }
 
     #[test]
-    fn rules_at_their_edges(rt: HostRuntime) -> Result<(), Fail> {
+    fn rules_at_their_edges(rt: HostRuntime) {
         let mut list = OpenList::new();
-        refused(&rt, &mut list, b"0 900 yy not", 11, 3)?;
-        refused(&rt, &mut list, b"64 900 yfx +", 12, 1)?;
-        refused(&rt, &mut list, b"31 900 yfx +", 12, 1)?;
-        refused(&rt, &mut list, b"32 900 fy +", 12, 1)?;
-        refused(&rt, &mut list, b"0 0 fy not", 13, 2)?;
-        refused(&rt, &mut list, b"0 1201 fy not", 13, 2)?;
-        refused(&rt, &mut list, b"0 900 fy abcdefghijklm", 14, 4)?;
-        refused(&rt, &mut list, b"0 900 fy 1a", 14, 4)?;
-        refused(&rt, &mut list, b"0 900 fy a+", 14, 4)?;
-        refused(&rt, &mut list, b"0 900 fy (", 14, 4)?;
-        accepted(
-            &rt,
-            &mut list,
-            b"0 1 fy abcdefghijkl",
-            "priority 1, twelve bytes",
-        )?;
-        accepted(
-            &rt,
-            &mut list,
-            b"63 1200 xfx +",
-            "priority 1200, function 63",
-        )
+        assert_eq!(rt; fault(&mut list, b"0 900 yy not"), Some((b'D', 11, 3)));
+        assert_eq!(rt; fault(&mut list, b"64 900 yfx +"), Some((b'D', 12, 1)));
+        assert_eq!(rt; fault(&mut list, b"31 900 yfx +"), Some((b'D', 12, 1)));
+        assert_eq!(rt; fault(&mut list, b"32 900 fy +"), Some((b'D', 12, 1)));
+        assert_eq!(rt; fault(&mut list, b"0 0 fy not"), Some((b'D', 13, 2)));
+        assert_eq!(rt; fault(&mut list, b"0 1201 fy not"), Some((b'D', 13, 2)));
+        assert_eq!(rt;
+            fault(&mut list, b"0 900 fy abcdefghijklm"),
+            Some((b'D', 14, 4))
+        );
+        assert_eq!(rt; fault(&mut list, b"0 900 fy 1a"), Some((b'D', 14, 4)));
+        assert_eq!(rt; fault(&mut list, b"0 900 fy a+"), Some((b'D', 14, 4)));
+        assert_eq!(rt; fault(&mut list, b"0 900 fy ("), Some((b'D', 14, 4)));
+        assert_eq!(rt;
+            fault(&mut list, b"0 1 fy abcdefghijkl"),
+            None,
+            "priority 1, twelve bytes"
+        );
+        assert_eq!(rt;
+            fault(&mut list, b"63 1200 xfx +"),
+            None,
+            "priority 1200, function 63"
+        );
     }
 
     #[test]
-    fn rules_of_a_list(rt: HostRuntime) -> Result<(), Fail> {
+    fn rules_of_a_list(rt: HostRuntime) {
         let mut list = OpenList::new();
-        accepted(&rt, &mut list, b"2 200 fy -", "a sign before")?;
-        refused(&rt, &mut list, b"2 300 fy ~", 15, 1)?;
-        refused(&rt, &mut list, b"3 300 fy -", 16, 4)?;
-        accepted(&rt, &mut list, b"36 500 yfx -", "taken before, free after")?;
-        refused(&rt, &mut list, b"4 300 yf -", 16, 4)?;
-        refused(&rt, &mut list, b"50 500 xfy =>", 17, 2)?;
-        refused(&rt, &mut list, b"5 500 fy !", 17, 2)?;
+        assert_eq!(rt; fault(&mut list, b"2 200 fy -"), None, "a sign before");
+        assert_eq!(rt; fault(&mut list, b"2 300 fy ~"), Some((b'D', 15, 1)));
+        assert_eq!(rt; fault(&mut list, b"3 300 fy -"), Some((b'D', 16, 4)));
+        assert_eq!(rt;
+            fault(&mut list, b"36 500 yfx -"),
+            None,
+            "taken before, free after"
+        );
+        assert_eq!(rt; fault(&mut list, b"4 300 yf -"), Some((b'D', 16, 4)));
+        assert_eq!(rt; fault(&mut list, b"50 500 xfy =>"), Some((b'D', 17, 2)));
+        assert_eq!(rt; fault(&mut list, b"5 500 fy !"), Some((b'D', 17, 2)));
         // y left of f where one has it right
-        refused(&rt, &mut list, b"32 200 yfx *", 17, 2)?;
-        accepted(&rt, &mut list, b"50 500 xfx =>", "x on both sides")
+        assert_eq!(rt; fault(&mut list, b"32 200 yfx *"), Some((b'D', 17, 2)));
+        assert_eq!(rt; fault(&mut list, b"50 500 xfx =>"), None, "x on both sides");
     }
 
     #[test]
-    fn the_first_of_two_faults(rt: HostRuntime) -> Result<(), Fail> {
+    fn the_first_of_two_faults(rt: HostRuntime) {
         let mut list = OpenList::new();
-        accepted(&rt, &mut list, b"0 900 fy not", "a word before")?;
-        refused(&rt, &mut list, b"0 1201 zz not", 11, 3)?;
-        refused(&rt, &mut list, b"64 1201 fy not", 12, 1)?;
-        refused(&rt, &mut list, b"1 1201 fy (", 13, 2)?;
-        refused(&rt, &mut list, b"0 900 fy not", 15, 1)?;
-        refused(&rt, &mut list, b"1 900 fy not", 16, 4)
+        assert_eq!(rt; fault(&mut list, b"0 900 fy not"), None, "a word before");
+        assert_eq!(rt; fault(&mut list, b"0 1201 zz not"), Some((b'D', 11, 3)));
+        assert_eq!(rt; fault(&mut list, b"64 1201 fy not"), Some((b'D', 12, 1)));
+        assert_eq!(rt; fault(&mut list, b"1 1201 fy ("), Some((b'D', 13, 2)));
+        assert_eq!(rt; fault(&mut list, b"0 900 fy not"), Some((b'D', 15, 1)));
+        assert_eq!(rt; fault(&mut list, b"1 900 fy not"), Some((b'D', 16, 4)));
     }
 
     #[test]
-    fn lookups(rt: HostRuntime) -> Result<(), Fail> {
+    fn lookups(rt: HostRuntime) {
         let empty = OpenList::new().seal();
-        assert!(rt; empty.before(b"not").is_none());
+        assert!(rt; empty.listed(Position::Before, b"not").is_none());
         assert!(rt; empty.operator(0).is_none());
         let mut list = OpenList::new();
-        accepted(&rt, &mut list, b"2 200 fy -", "a sign before")?;
-        accepted(&rt, &mut list, b"36 500 yfx -", "the same sign after")?;
+        assert_eq!(rt; fault(&mut list, b"2 200 fy -"), None, "a sign before");
+        assert_eq!(rt;
+            fault(&mut list, b"36 500 yfx -"),
+            None,
+            "the same sign after"
+        );
         let sealed = list.seal();
-        assert!(rt; sealed.before(b"-") == Some(2));
-        assert!(rt; sealed.after(b"-") == Some(36));
-        assert!(rt; sealed.after(b"--").is_none());
-        Ok(())
+        assert_eq!(rt; sealed.listed(Position::Before, b"-"), Some(2));
+        assert_eq!(rt; sealed.listed(Position::After, b"-"), Some(36));
+        assert!(rt; sealed.listed(Position::After, b"--").is_none());
     }
 
     // The ladder, function by function, both ways.
     #[test]
     fn the_ladder_both_ways(rt: HostRuntime) {
-        for function in 0..64u8 {
-            let Some(operator) = Ladder.operator(function) else {
-                continue;
-            };
-            if function < 4 {
-                assert!(rt; Ladder.before(operator.spelling) == Some(function));
+        for function in 0..64 {
+            let position = if function < 4 {
+                Position::Before
             } else {
-                assert!(rt; Ladder.after(operator.spelling) == Some(function));
+                Position::After
+            };
+            if let Some(operator) = Ladder.operator(function) {
+                assert_eq!(rt; Ladder.listed(position, operator.spelling), Some(function));
             }
         }
         assert!(rt; Ladder.operator(52).is_none());
