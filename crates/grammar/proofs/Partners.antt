@@ -14,7 +14,7 @@ use Rattle.notation.specs.Tables.{Table, LawfulTable, listed}
 use Rattle.grammar.specs.declared.due.Due.{Due}
 use Rattle.grammar.specs.declared.due.Due.TheVariants.{Operator}
 use Rattle.grammar.specs.declared.taker.Taker.{Taker}
-use Rattle.grammar.specs.declared.taker.Taker.TheVariants.{Left, Right, Neither}
+use Rattle.grammar.specs.declared.taker.Taker.TheVariants.{Left, Right}
 use Rattle.grammar.specs.Trees.{Bracketed, erase}
 use Rattle.grammar.specs.Weights.{fixity_in, operator_in}
 use Rattle.grammar.specs.Neighbours.{taker}
@@ -52,10 +52,10 @@ standing_opens (Some prefix) f k b n e = tt
 standing_opens (Some postfix) f k b n e = e
 standing_opens (Some between) f k b n e = e
 
-decided_opens : (v : Taker) (further here : State) (n : ℕ) → Opens further n → Opens here n → Opens (decided v further here) n
-decided_opens Left further here n f h = f
-decided_opens Right further here n f h = h
-decided_opens Neither further here n f h = tt
+decided_opens : (v : Option Taker) (further here : State) (n : ℕ) → Opens further n → Opens here n → Opens (decided v further here) n
+decided_opens (Some Left) further here n f h = f
+decided_opens (Some Right) further here n f h = h
+decided_opens None further here n f h = tt
 
 closed_refused : (k : List Frame) (b : Bracketed) → closed k b ≡ refused → brackets k ≡ 0
 closed_refused [] b e = refl

@@ -10,7 +10,7 @@ use Rattle.notation.specs.Operators.{Fixity}
 use Rattle.notation.specs.Operators.Fixity.{prefix, postfix, between}
 use Rattle.notation.specs.Tables.{Table, listed}
 use Rattle.grammar.specs.declared.taker.Taker.{Taker}
-use Rattle.grammar.specs.declared.taker.Taker.TheVariants.{Left, Right, Neither}
+use Rattle.grammar.specs.declared.taker.Taker.TheVariants.{Left, Right}
 use Rattle.grammar.specs.Trees.{Bracketed}
 use Rattle.grammar.specs.Weights.{fixity_in, operator_in, left_weight, right_weight, AdmitsLeft}
 use Rattle.grammar.specs.Lawful.{Name, Lawful}
@@ -97,10 +97,10 @@ module _ (t : Table) where
     ended_held (pending u ∷ k) b c w l a e h =
         let (waits, law, room) = completed_lawful u k b w l a in ended_held k (completed u b) c waits law room (sym (completed_below u k b []) ∙ e) h
 
-    decided_held : (rest : List Lexeme) (v : Taker) (further here : State) → (v ≡ Left → Held rest further) → (v ≡ Right → Held rest here) → Held rest (decided v further here)
-    decided_held rest Left further here f h = f refl
-    decided_held rest Right further here f h = h refl
-    decided_held rest Neither further here f h = tt
+    decided_held : (rest : List Lexeme) (v : Option Taker) (further here : State) → (v ≡ Some Left → Held rest further) → (v ≡ Some Right → Held rest here) → Held rest (decided v further here)
+    decided_held rest (Some Left) further here f h = f refl
+    decided_held rest (Some Right) further here f h = h refl
+    decided_held rest None further here f h = tt
 
     standing_held : (rest : List Lexeme) (x : Option Fixity) (f : ℕ) (k : List Frame) (b : Bracketed) → fixity_in t f ≡ x → Waits k → Lawful t b → Admits t k (max (operator_in t f).priority (left_weight t b)) → AdmitsLeft t f b → below k (followed t b (sign_of t f ∷ rest)) ≡ whole → Held rest (standing x f k b)
     standing_held rest None f k b x w l a r e = tt
