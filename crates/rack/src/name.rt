@@ -4,7 +4,7 @@
 pub const MAX_NAME_BYTES: usize = 16;
 
 // A name: 1 to 16 word bytes, and zeros in the bytes that it does not use.
-#[derive(Clone, Copy)]
+#[derive(Clone, Copy, PartialEq, Eq)]
 pub struct Name {
     pub bytes: [u8; MAX_NAME_BYTES],
 }
