@@ -48,7 +48,7 @@ impl Name {
     pub fn word(&self) -> &[u8]
         ensures { result.now ≡ spelt self.now.bytes }
     {
-        &self.bytes[0..self.word_len()]
+        &self.bytes[..self.word_len()]
     }
 
     // Whether the bytes are a word of 1 to 16 bytes and zeros after it.
