@@ -5,20 +5,20 @@ ghost use Rattle.rack.specs.FunctionSets.{SetAnswered, bit_of, bits_meaning};
 ghost use Rattle.rack.specs.Roots.{AtTree};
 ghost use Rattle.rack.specs.Reckoning.{Valued};
 
-use crate::checking::FUNCTIONS;
 use crate::fill::Fill;
 use crate::function_set::FunctionSet;
 use crate::name::Name;
 use crate::node::Node;
 use crate::reckoning::reckon;
 use crate::rules::Rules;
+use notation::FUNCTIONS;
 use tokens::Fault;
 
 // The set of just this function, or of none where there is no such function.
 fn bit(function: u8) -> u64
     ensures { result ≡ bit_of function }
 {
-    if function < FUNCTIONS {
+    if usize::from(function) < FUNCTIONS {
         1 << function
     } else {
         0

@@ -7,10 +7,11 @@ ghost use Rattle.rack.specs.Racks.{ProperTree, item_at, Sound, SoundBelow};
 ghost use Rattle.rack.specs.Roots.{AtTree};
 ghost use Rattle.rack.specs.Reckoning.{values_of, ValueOf, Valued, ComesFrom};
 
-use crate::checking::{FIRST_OF_TWO_OPERANDS, check_tree};
+use crate::checking::check_tree;
 use crate::fill::Fill;
 use crate::node::{Item, Node};
 use crate::rules::Rules;
+use notation::FIRST_OF_TWO;
 use tokens::{Fault, FaultKind};
 
 // The value of the node, from those of the nodes before it.
@@ -24,7 +25,7 @@ fn value_at<R: Rules>(rules: &R, nodes: &[Node], at: usize, values: &[R::Value])
         Item::Name(name) => rules.name(name),
         Item::Function(function) => {
             let second = values[at - 1];
-            if *function < FIRST_OF_TWO_OPERANDS {
+            if *function < FIRST_OF_TWO {
                 rules.one(*function, second)
             } else {
                 let first = values[at - 1 - nodes[at - 1].size];

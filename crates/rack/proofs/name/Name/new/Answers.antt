@@ -1,4 +1,4 @@
-use Rattle.std.proofs.Common.{◌≡◌, ℕ, List, ◌++◌, drop, length, replicate, ap, arith}
+use Rattle.std.proofs.Common.{◌≡◌, ℕ, List, ◌++◌, drop, length, replicate}
 use Rattle.std.proofs.lemmas.List.{drop-replicate}
 use Rattle.rack.specs.declared.name.Name.{Name}
 use Rattle.rack.specs.Nodes.{name_of}
