@@ -1,15 +1,34 @@
 // Whether the nodes up to a root obey the rack's rules.
-ghost use Rattle.std.specs.Prelude.{◌≡◌, ℕ, ◌+◌, ◌<◌, length, IfOk, MatchBool, MatchOption, MatchResult};
+ghost use Rattle.std.specs.Prelude.{◌≡◌, ℕ, ◌+◌, ◌<◌, length, IfOk, MatchBool, MatchResult};
 ghost use Rattle.tokens.specs.Faults.{fault};
 ghost use Rattle.tokens.specs.InOrder.{Only, Accepted};
 ghost use Rattle.rack.specs.Nodes.{size, room};
-ghost use Rattle.rack.specs.Racks.{item_at, Heads, Sound, SoundBelow, FirstUnsound};
+ghost use Rattle.rack.specs.Racks.{SoundBelow, FirstUnsound};
 ghost use Rattle.rack.specs.Roots.{NoRoot, AtTree, Rooted};
 
 use crate::fill::Fill;
 use crate::node::Node;
 use crate::sound::SoundNodes;
 use tokens::{Fault, FaultKind};
+
+// Refuses a node up to the root that breaks the rules, at its place: the first there is.
+fn check_nodes(rack: &[Node], root: usize) -> Result<(), Fault>
+    requires { root < length rack.now }
+    ensures { MatchResult result (λ _. SoundBelow rack.now (root + 1)) (λ f. FirstUnsound rack.now root f.place × (f ≡ fault FaultKind.MalformedRack f.place)) }
+{
+    for (place, node) in rack[..=root].iter().enumerate() {
+        let earlier = SoundNodes {
+            nodes: &rack[..place],
+        };
+        if earlier.headed_size(node.item) != Some(node.size) {
+            return Err(Fault {
+                kind: FaultKind::MalformedRack,
+                place,
+            });
+        }
+    }
+    Ok(())
+}
 
 // Whether the root is among the nodes in use and before the rack's end.
 fn has_root(rack: &[Node], fill: &Fill, root: usize) -> bool
@@ -30,6 +49,6 @@ pub fn check_tree(rack: &[Node], fill: &Fill, root: usize) -> Result<usize, Faul
             place: 0,
         });
     }
-    SoundNodes::up_to(rack, root)?;
+    check_nodes(rack, root)?;
     Ok(rack[root].size)
 }

@@ -1,18 +1,16 @@
 // Nodes that obey the rack's rules.
-ghost use Rattle.std.specs.Prelude.{◌≡◌, ℕ, ◌+◌, ◌-◌, ◌<◌, ◌≤◌, List, length, MatchOption, MatchResult};
-ghost use Rattle.tokens.specs.Faults.{fault};
+ghost use Rattle.std.specs.Prelude.{◌≡◌, ℕ, ◌+◌, ◌-◌, ◌<◌, ◌≤◌, List, length, MatchOption};
 ghost use Rattle.rack.specs.declared.node.Node.{Node};
-ghost use Rattle.rack.specs.Racks.{size_at, Heads, SoundBelow, FirstUnsound};
+ghost use Rattle.rack.specs.Racks.{size_at, Heads, SoundBelow};
 
 use crate::node::{Item, Node};
 use notation::{FIRST_OF_TWO, FUNCTIONS};
 use std::marker::Model;
-use tokens::{Fault, FaultKind};
 
 // The first nodes of a rack, or those of a tree: each holds the size of the tree that it heads.
 #[derive(Drop)]
 pub(crate) struct SoundNodes<'a> {
-    nodes: &'a [Node],
+    pub(crate) nodes: &'a [Node],
 }
 
 impl<'a> Model for SoundNodes<'a> {
@@ -23,28 +21,7 @@ impl<'a> Model for SoundNodes<'a> {
     ghost invariant = { λ s. SoundBelow s.nodes.now (length s.nodes.now) };
 }
 
-impl<'a> SoundNodes<'a> {
-    // The nodes up to the root. Refuses the first of them that breaks the rules, at its place.
-    pub(crate) fn up_to(rack: &'a [Node], root: usize) -> Result<SoundNodes<'a>, Fault>
-        requires { root < length rack.now }
-        ensures { MatchResult result (λ _. SoundBelow rack.now (root + 1)) (λ f. FirstUnsound rack.now root f.place × (f ≡ fault FaultKind.MalformedRack f.place)) }
-    {
-        for (place, node) in rack[..=root].iter().enumerate() {
-            let earlier = SoundNodes {
-                nodes: &rack[..place],
-            };
-            if earlier.headed_size(node.item) != Some(node.size) {
-                return Err(Fault {
-                    kind: FaultKind::MalformedRack,
-                    place,
-                });
-            }
-        }
-        Ok(SoundNodes {
-            nodes: &rack[..=root],
-        })
-    }
-
+impl SoundNodes<'_> {
     // The size of the tree whose root is the last node before the place, or none at the start.
     fn size_before(&self, place: usize) -> Option<usize>
         requires { place ≤ length self.now }
@@ -54,7 +31,7 @@ impl<'a> SoundNodes<'a> {
     }
 
     // The size of the tree that the item heads if it comes next after these nodes, or none if it heads none.
-    fn headed_size(&self, item: Item) -> Option<usize>
+    pub(crate) fn headed_size(&self, item: Item) -> Option<usize>
         ensures { MatchOption result ((n : ℕ) → Heads self.now (length self.now) item n → ⊥) (λ n. Heads self.now (length self.now) item n) }
     {
         match item {

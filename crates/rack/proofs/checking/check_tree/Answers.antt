@@ -7,5 +7,5 @@ returns c =
     let used = c.args.fill.now.used in
     let root = c.args.root in
     let (in_use, within) = c.if-not-has_root.ensures in
-    let sound = c.in_ok-up_to.ensures in
+    let sound = c.in_ok-check_nodes.ensures in
     record { answer = size_only rack used root in_use within sound; tree = rooted rack used root in_use within sound }

@@ -1,7 +1,7 @@
 use Rattle.std.proofs.Common.{◌+◌, ◌<◌, refl, arith}
 use Rattle.std.proofs.lemmas.List.{length-take-le}
 use Rattle.rack.proofs.Keeping.{unsound_here}
-use Rattle.rack.proofs.sound.SoundNodes.up_to.Goals as goal
+use Rattle.rack.proofs.checking.check_nodes.Goals as goal
 
 pub returns-then-ne : goal.returns-then-ne
 returns-then-ne c =

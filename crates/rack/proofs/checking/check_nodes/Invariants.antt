@@ -1,5 +1,5 @@
 use Rattle.rack.specs.Racks.{SoundBelow}
-use Rattle.rack.proofs.sound.SoundNodes.up_to.Given as goal
+use Rattle.rack.proofs.checking.check_nodes.Given as goal
 
 abbrev pub invariant-loop-place : goal.invariant-loop-place
 invariant-loop-place l = SoundBelow l.rack l.place
