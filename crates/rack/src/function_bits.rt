@@ -11,18 +11,13 @@ use crate::name::Name;
 use crate::node::Node;
 use crate::reckoning::reckon;
 use crate::rules::Rules;
-use notation::FUNCTIONS;
 use tokens::Fault;
 
 // The set of just this function, or of none where there is no such function.
 fn bit(function: u8) -> u64
     ensures { result ≡ bit_of function }
 {
-    if usize::from(function) < FUNCTIONS {
-        1 << function
-    } else {
-        0
-    }
+    1u64.checked_shl(function.into()).unwrap_or(0)
 }
 
 // Rules for the functions in a tree, as bits.
