@@ -59,11 +59,11 @@ decided_opens None further here n f h = tt
 
 closed_refused : (k : List Frame) (b : Bracketed) → closed k b ≡ refused → brackets k ≡ 0
 closed_refused [] b e = refl
-closed_refused (bracket ∷ k) b e = let z : ◌≡◌ {A = ℕ} 0 1 = cc in absurd (omega arith)
+closed_refused (bracket ∷ k) b e = cc
 closed_refused (pending u ∷ k) b e = closed_refused k (completed u b) e
 
 ended_none : (k : List Frame) (b : Bracketed) → ended k b ≡ None → 0 < brackets k
-ended_none [] b e = let z : ◌≡◌ {A = ℕ} 0 1 = cc in absurd (omega arith)
+ended_none [] b e = cc
 ended_none (bracket ∷ k) b e = omega arith
 ended_none (pending u ∷ k) b e = ended_none k (completed u b) e
 
@@ -107,19 +107,19 @@ module _ (t : Table) where
 
   -- a `)` that the state refuses, and an end that it does not accept
   close_unmatched : (st : State) (d : Due) (n : ℕ) (x : Lexeme) → (st ≡ refused → ⊥) → Tells st d → Opens st n → d ≡ Operator → x.kind ≡ Close → step t st x ≡ refused → n ≡ 0
-  close_unmatched (operand_due k) d n x live tells opens op kind e = let z : ◌≡◌ {A = ℕ} 0 1 = cc in absurd (omega arith)
+  close_unmatched (operand_due k) d n x live tells opens op kind e = cc
   close_unmatched (operator_due k b) d n x live tells opens op kind e =
       opens ∙ closed_refused k b (sym (ap (λ (j : TokenKind). operator_step t j x.bytes k b) kind) ∙ e)
   close_unmatched refused d n x live tells opens op kind e = absurd (live refl)
 
   end_unmatched : (st : State) (d : Due) (n : ℕ) → (st ≡ refused → ⊥) → Tells st d → Opens st n → d ≡ Operator → outcome st ≡ None → 0 < n
-  end_unmatched (operand_due k) d n live tells opens op e = let z : ◌≡◌ {A = ℕ} 0 1 = cc in absurd (omega arith)
+  end_unmatched (operand_due k) d n live tells opens op e = cc
   end_unmatched (operator_due k b) d n live tells opens op e = omega (arith, ended_none k b e)
   end_unmatched refused d n live tells opens op e = absurd (live refl)
 
 refused_or : (st : State) → ((st ≡ refused → ⊥) → ⊥) → st ≡ refused
-refused_or (operand_due k) h = absurd (h (λ e. let z : ◌≡◌ {A = ℕ} 0 1 = cc in omega arith))
-refused_or (operator_due k b) h = absurd (h (λ e. let z : ◌≡◌ {A = ℕ} 0 1 = cc in omega arith))
+refused_or (operand_due k) h = absurd (h (λ e. cc))
+refused_or (operator_due k b) h = absurd (h (λ e. cc))
 refused_or refused h = refl
 
 none_or : (o : Option Bracketed) → ((b : Bracketed) → o ≡ Some b → ⊥) → o ≡ None

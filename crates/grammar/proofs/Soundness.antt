@@ -93,7 +93,7 @@ module _ (t : Table) where
 
     ended_held : (k : List Frame) (b c : Bracketed) → Waits k → Lawful t b → Admits t k (left_weight t b) → below k (followed t b []) ≡ whole → ended k b ≡ Some c → Lawful t c × (followed t c [] ≡ whole)
     ended_held [] b c w l a e h = let same : b ≡ c = cc in (subst (Lawful t) same l, ap (λ (x : Bracketed). followed t x []) (sym same) ∙ e)
-    ended_held (bracket ∷ k) b c w l a e h = let z : ◌≡◌ {A = ℕ} 0 1 = cc in absurd (omega arith)
+    ended_held (bracket ∷ k) b c w l a e h = cc
     ended_held (pending u ∷ k) b c w l a e h =
         let (waits, law, room) = completed_lawful u k b w l a in ended_held k (completed u b) c waits law room (sym (completed_below u k b []) ∙ e) h
 
@@ -152,9 +152,9 @@ module _ (t : Table) where
     run_held (x ∷ xs) st h held = run_held xs (step t st x) h.1 (step_held xs st x h.0 held)
 
     outcome_held : (st : State) (b : Bracketed) → Held [] st → outcome st ≡ Some b → Lawful t b × (followed t b [] ≡ whole)
-    outcome_held (operand_due k) b held e = let z : ◌≡◌ {A = ℕ} 0 1 = cc in absurd (omega arith)
+    outcome_held (operand_due k) b held e = cc
     outcome_held (operator_due k a) b (w, l, m, r, d) e = ended_held k a b w l m d e
-    outcome_held refused b held e = let z : ◌≡◌ {A = ℕ} 0 1 = cc in absurd (omega arith)
+    outcome_held refused b held e = cc
 
   pub finds_only : (xs : List Lexeme) → AllByRecursion Formed xs → (b : Bracketed) → accepted t xs ≡ Some b → Lawful t b × (lexemes t b ≡ xs)
   finds_only xs h b e =

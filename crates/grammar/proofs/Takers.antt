@@ -52,7 +52,7 @@ within Y p q some h = ⊎_elim inl (λ k. inr (omega arith, refl)) (cases_lt p q
 
 within_back : (s : Side) (p q : ℕ) → Tighter s p q → p ≤ limit s q
 within_back X p q (inl h) = omega arith
-within_back X p q (inr (e, y)) = let z : ◌≡◌ {A = ℕ} 0 1 = cc in absurd (omega arith)
+within_back X p q (inr (e, y)) = cc
 within_back Y p q (inl h) = omega arith
 within_back Y p q (inr (e, y)) = omega arith
 
@@ -64,7 +64,7 @@ outside Y Y p q h k = absurd (omega arith)
 
 outside_back : (s : Side) (p q : ℕ) → 1 ≤ q → p ≡ q → s ≡ X → limit s q < p
 outside_back X p q some e x = omega arith
-outside_back Y p q some e x = let z : ◌≡◌ {A = ℕ} 0 1 = cc in absurd (omega arith)
+outside_back Y p q some e x = cc
 
 turned : (s : Side) (p q : ℕ) → Tighter s p q → (p < q) ⊎ ((q ≡ p) × (s ≡ Y))
 turned s p q (inl h) = inl h

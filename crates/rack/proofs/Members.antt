@@ -121,9 +121,9 @@ set_of t proper bits fits is =
 -- a number is known by its bits
 same_digit : (u v : ℕ) → u < 2 → v < 2 → eqb u 1 ≡ eqb v 1 → u ≡ v
 same_digit zero zero p q e = refl
-same_digit zero (suc zero) p q e = let z : ◌≡◌ {A = ℕ} 0 1 = cc in absurd (omega arith)
+same_digit zero (suc zero) p q e = cc
 same_digit zero (suc (suc v)) p q e = absurd (omega arith)
-same_digit (suc zero) zero p q e = let z : ◌≡◌ {A = ℕ} 0 1 = cc in absurd (omega arith)
+same_digit (suc zero) zero p q e = cc
 same_digit (suc zero) (suc zero) p q e = refl
 same_digit (suc zero) (suc (suc v)) p q e = absurd (omega arith)
 same_digit (suc (suc u)) v p q e = absurd (omega arith)
@@ -155,12 +155,12 @@ set_one t x y p q =
 -- what is answered of the bits is answered of the set
 module _ (n : ℕ) (t : Tree) (proper : ProperTree t) where
   pub set_refused : (f : Fault) → ValueOf bits_meaning n t (Err f) → SetAnswered n t (Err f)
-  set_refused f = ⊎_elim (λ (few, is). inl (few, let same : f ≡ fault TooFewValues 0 = cc in ap Err same)) (λ (enough, is). let z : ◌≡◌ {A = ℕ} 0 1 = cc in absurd (omega arith))
+  set_refused f = ⊎_elim (λ (few, is). inl (few, let same : f ≡ fault TooFewValues 0 = cc in ap Err same)) (λ (enough, is). cc)
 
   pub set_answered : (bits : ℕ) → bits < 2 ^ 64 → ValueOf bits_meaning n t (Ok bits) → SetAnswered n t (Ok (record { bits = bits; count = ones bits }))
   set_answered bits fits =
       ⊎_elim
-      (λ (few, is). let z : ◌≡◌ {A = ℕ} 0 1 = cc in absurd (omega arith))
+      (λ (few, is). cc)
       (λ (enough, is). let same : bits ≡ fold bits_meaning t = cc in inr (enough, (record { bits = bits; count = ones bits }, refl, set_of t proper bits fits same)))
 
 pub answered_one : (n : ℕ) (t : Tree) (r s : Result FunctionSet Fault) → SetAnswered n t r → SetAnswered n t s → r ≡ s
@@ -176,4 +176,4 @@ module _ (rack : List Node) (used root n : ℕ) where
   pub set_only : (bits : ℕ) → bits < 2 ^ 64 → AtTree rack used root (ValueOf bits_meaning n) (Ok bits) → Only (AtTree rack used root (SetAnswered n)) (Ok (record { bits = bits; count = ones bits }))
   set_only bits fits h =
       at_tree_only rack used root (SetAnswered n) (answered_one n) (Ok (record { bits = bits; count = ones bits }))
-      (at_changed rack used root (ValueOf bits_meaning n) (SetAnswered n) (Ok bits) (Ok (record { bits = bits; count = ones bits })) (λ k is. let z : ◌≡◌ {A = ℕ} 0 1 = cc in absurd (omega arith)) (λ tree l. set_answered n tree (proper_tree rack root tree l) bits fits) h)
+      (at_changed rack used root (ValueOf bits_meaning n) (SetAnswered n) (Ok bits) (Ok (record { bits = bits; count = ones bits })) (λ k is. cc) (λ tree l. set_answered n tree (proper_tree rack root tree l) bits fits) h)

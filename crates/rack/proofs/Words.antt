@@ -24,11 +24,11 @@ when_so false f g h = g h
 -- word bytes are those of the class, and of the kind
 class_is : (c : ByteClass) → kind_in c ≡ Some Word → c ≡ C.Word
 class_is C.Word e = refl
-class_is C.Symbol e = let z : ◌≡◌ {A = ℕ} 0 1 = cc in absurd (omega arith)
-class_is C.Open e = let z : ◌≡◌ {A = ℕ} 0 1 = cc in absurd (omega arith)
-class_is C.Close e = let z : ◌≡◌ {A = ℕ} 0 1 = cc in absurd (omega arith)
-class_is C.Space e = let z : ◌≡◌ {A = ℕ} 0 1 = cc in absurd (omega arith)
-class_is C.Unlawful e = let z : ◌≡◌ {A = ℕ} 0 1 = cc in absurd (omega arith)
+class_is C.Symbol e = cc
+class_is C.Open e = cc
+class_is C.Close e = cc
+class_is C.Space e = cc
+class_is C.Unlawful e = cc
 
 abbrev pub InWord : ℕ → Type 0
 InWord b = kind_of b ≡ Some Word
@@ -74,7 +74,7 @@ word_begins xs n is =
 -- words have no zeros, so padding can be told from them
 word_some : (b : ℕ) → InWord b → b ≡ 0 → ⊥
 unfolding kind_of
-word_some b is none = let at : kind_of 0 ≡ Some Word = ap kind_of (sym none) ∙ is in let z : ◌≡◌ {A = ℕ} 0 1 = cc in omega arith
+word_some b is none = let at : kind_of 0 ≡ Some Word = ap kind_of (sym none) ∙ is in cc
 
 spelt_zeros : (n : ℕ) → spelt (replicate n 0) ≡ []
 spelt_zeros zero = refl
