@@ -1,6 +1,6 @@
 -- What the well-formed tokens are: the two brackets, and spellings of the kind of their first byte. Assumes nothing.
 use Rattle.std.proofs.Common.{◌≡◌, ℕ, Bool, true, false, cond, eqb, ◌⊎◌, List, [], ◌∷◌, Some, codes, refl, ap, subst, inl, inr, ⊎_elim, arith}
-use Rattle.std.proofs.lemmas.Bool.{false≢true, cases_Bool, or_cases, eqb-true}
+use Rattle.std.proofs.lemmas.Bool.{cases_Bool, or_cases, eqb-true}
 use Rattle.tokens.specs.declared.byte.ByteClass.TheVariants as C
 use Rattle.tokens.specs.declared.token.TokenKind.{TokenKind}
 use Rattle.tokens.specs.declared.token.TokenKind.TheVariants.{Word, Symbol, Open, Close}
@@ -39,7 +39,7 @@ symbol_kind [] h = absurd (omega (arith, h.some))
 symbol_kind (b ∷ s) h = ap (λ (v : Bool). cond v Word Symbol) (byte_tested b Symbol h.alike.0)
 
 only_one : (x b : ℕ) → is_in (x ∷ []) b ≡ true → b ≡ x
-only_one x b e = ⊎_elim (eqb-true b x) (λ h. absurd (false≢true h)) (or_cases (eqb b x) false e)
+only_one x b e = ⊎_elim (eqb-true b x) (λ h. cc) (or_cases (eqb b x) false e)
 
 -- a bracket is its one byte
 pub opening_is : (w : List ℕ) → WellFormed Open w → w ≡ codes "("

@@ -34,7 +34,7 @@ sign_token s w k e d = ap sign e ∙ ap (λ (j : TokenKind). token j w) d
 
 none_is : (o : Option ℕ) → not (is_some o) ≡ true → o ≡ None
 none_is None e = refl
-none_is (Some f) e = absurd (false≢true e)
+none_is (Some f) e = cc
 
 module _ (t : Table) where
   tested_name : (w : List ℕ) → WellFormed Word w → is_name t w ≡ true → Name t w
