@@ -41,11 +41,10 @@ no_word_byte : (b : ℕ) → (class_of b ≡ C.Word → ⊥) → InWord b → �
 unfolding kind_of
 no_word_byte b other is = other (class_is (class_of b) is)
 
--- some bytes are a word if each of them is of that class
-pub word_if_bytes : (xs : List ℕ) (r : Bool) → 0 < length xs → MatchBool r (AllWithin (λ b. class_of b ≡ C.Word) xs 0 (length xs)) ((k : ℕ) × (k < length xs) × HoldsAt (λ b. class_of b ≡ C.Word → ⊥) xs k) → MatchBool r (WellFormed Word xs) (WellFormed Word xs → ⊥)
-word_if_bytes xs true some all =
-    record { some = some; alike = recursion_from_All InWord xs (λ k d lt. word_byte (get_or xs k d) (all k d (omega arith) lt)); alone = λ e. cc }
-word_if_bytes xs false some (k, lt, other) = λ word. no_word_byte (get_or xs k 0) (other 0) (All-get_or InWord xs k 0 lt word.alike)
+-- bytes are word bytes if each is of that class
+pub all_in_words : (xs : List ℕ) (r : Bool) → MatchBool r (AllWithin (λ b. class_of b ≡ C.Word) xs 0 (length xs)) ((k : ℕ) × (k < length xs) × HoldsAt (λ b. class_of b ≡ C.Word → ⊥) xs k) → MatchBool r (AllByRecursion InWord xs) (AllByRecursion InWord xs → ⊥)
+all_in_words xs true each = recursion_from_All InWord xs (λ k d lt. word_byte (get_or xs k d) (each k d (omega arith) lt))
+all_in_words xs false (k, lt, other) = λ each. no_word_byte (get_or xs k 0) (other 0) (All-get_or InWord xs k 0 lt each)
 
 abbrev pub IsZero : ℕ → Type 0
 IsZero b = b ≡ 0

@@ -8,14 +8,20 @@ ghost use Rattle.rack.specs.Names.{ProperName, spelt};
 use crate::name::{MAX_NAME_BYTES, Name};
 use tokens::ByteClass;
 
-// Whether the bytes are a word: letters, digits and underscores, at least one.
+// Whether all of the bytes are word bytes: letters, digits or underscores.
+fn are_word_bytes(bytes: &[u8]) -> bool
+    ensures { MatchBool result (AllByRecursion (λ b. kind_of b ≡ Some Word) bytes.now) (AllByRecursion (λ b. kind_of b ≡ Some Word) bytes.now → ⊥) }
+{
+    bytes
+        .iter()
+        .all(|&byte| ByteClass::of(byte) == ByteClass::Word)
+}
+
+// Whether the bytes are a word.
 fn is_word(bytes: &[u8]) -> bool
     ensures { MatchBool result (WellFormed Word bytes.now) (WellFormed Word bytes.now → ⊥) }
 {
-    !bytes.is_empty()
-        && bytes
-            .iter()
-            .all(|&byte| ByteClass::of(byte) == ByteClass::Word)
+    !bytes.is_empty() && are_word_bytes(bytes)
 }
 
 // Whether all of the bytes are zeros.
