@@ -13,7 +13,7 @@ use Rattle.grammar.specs.Trees.Bracketed.{named, pair, prefixed, postfixed, infi
 use Rattle.grammar.specs.Weights.{fixity_in, operator_in, AdmitsLeft, AdmitsRight, admits_left, admits_right}
 use Rattle.grammar.specs.Lawful.{Lawful}
 use Rattle.grammar.specs.Reading.{closing, kind_of_spelling, sign_of, lexemes, ReadsTokens, Reads}
-use Rattle.grammar.specs.Writing.{paired, write_one, write, written, HasOperator, Writable, WritesFewest, OneFewest, WritableIsReadable}
+use Rattle.grammar.specs.Writing.{paired, write_one, write, written, HasOperator, Writable, WritesFewest, WritableIsReadable}
 use Rattle.grammar.proofs.Signs.{kind_cases}
 use Rattle.grammar.proofs.Tables.{present}
 use Rattle.grammar.proofs.Texts.{spaces}
@@ -136,9 +136,6 @@ writes_fewest t lawful tree h =
       count = count;
       fewest = record { text = written t tree; reads = s.reads; pairs = count; least = least t tree };
     }
-
-pub one_fewest : OneFewest
-one_fewest t tree m n p q = omega (arith, p.least q.text q.reads, q.least p.text p.reads, p.pairs, q.pairs)
 
 pub writable_is_readable : WritableIsReadable
 writable_is_readable t lawful tree = (
