@@ -134,9 +134,6 @@ module _ {V : Type 0} (m : Meaning V) where
     pub front : (tree : Tree) → ProperTree tree → nodes ≡ nodes_of tree → take i values ≡ take i (values_of m tree)
     pub rest : drop i values ≡ drop i before
 
-  pub stored_none : (nodes : List Node) (before : List V) → Stored nodes before before 0
-  stored_none nodes before = record { front = λ tree proper is. refl; rest = refl }
-
   -- only the nodes and the values before a place matter there
   comes_front : (nodes : List Node) (values : List V) (i : ℕ) (x : Item) (n : ℕ) (v : V) → Heads nodes i x n → ComesFrom m (take i nodes) i x (take i values) v → ComesFrom m nodes i x values v
   comes_front nodes values i (I.Name k) n v h p = p

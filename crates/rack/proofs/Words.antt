@@ -1,9 +1,9 @@
 -- The word that a name's bytes spell, and when the bytes are a proper name.
-use Rattle.std.proofs.Common.{◌≡◌, ◌==◌, ℕ, zero, suc, ◌+◌, ◌-◌, ◌<◌, ◌≤◌, Bool, true, false, not, cond, eqb, List, [], ◌∷◌, ◌++◌, length, position, get_or, take, drop, replicate, Some, unwrap_or, Decides, MatchBool, sym, refl, ap, ◌∙◌, subst, arith}
+use Rattle.std.proofs.Common.{◌≡◌, ◌==◌, ℕ, zero, suc, ◌+◌, ◌-◌, ◌<◌, ◌≤◌, Bool, true, false, not, cond, eqb, List, [], ◌∷◌, ◌++◌, length, position, get_or, take, drop, replicate, Some, unwrap_or, MatchBool, sym, refl, ap, ◌∙◌, subst, arith}
 use Rattle.std.specs.List.{AllByRecursion, AllWithin, HoldsAt, position_or_len}
 use Rattle.std.proofs.ByRecursion.{All-get_or}
 use Rattle.std.proofs.lemmas.List.{length-drop, length-take-le, take-append-drop, drop_at}
-use Rattle.std.proofs.lemmas.Bool.{both_ways, ne_eqb, cond-false}
+use Rattle.std.proofs.lemmas.Bool.{ne_eqb, cond-false}
 use Rattle.std.proofs.lemmas.Bool.Decides.{nat_tests}
 use Rattle.std.proofs.lemmas.List.Elements.{recursion_from_All}
 use Rattle.std.proofs.lemmas.List.Sums.{prefix_len-le-length}
@@ -128,8 +128,3 @@ module _ (n : Name) (len : ℕ) (long : length n.bytes ≡ 16) (within : len ≤
 
   pub proper_no_word : (WellFormed Word (take len n.bytes) → ⊥) → ProperName n → ⊥
   proper_no_word other name = other (proper_word name)
-
--- two names are the same if their bytes are
-pub same_names : (n k : Name) (r : Bool) → Decides r (n.bytes ≡ k.bytes) → MatchBool r (n ≡ k) (n ≡ k → ⊥)
-same_names n k true h = ap (λ (bytes : List ℕ). record { bytes = bytes }) (h.0 refl)
-same_names n k false h = λ e. both_ways false refl (h.1 (ap (λ (x : Name). x.bytes) e))
