@@ -86,11 +86,11 @@ module _ (t : Table) where
   settled_spine f (pair b) k h = refl
   settled_spine f (prefixed g b) k h =
       settled_spine f b (pending (prefixing g) ∷ k) (omega arith)
-      ∙ ap (λ (v : Taker). decided v (settled t f k (prefixed g b)) (standing (fixity_in t f) f (pending (prefixing g) ∷ k) b)) (taker_left (operator_in t g) (operator_in t f) (omega arith))
+      ∙ ap (λ (v : Option Taker). decided v (settled t f k (prefixed g b)) (standing (fixity_in t f) f (pending (prefixing g) ∷ k) b)) (taker_left (operator_in t g) (operator_in t f) (omega arith))
   settled_spine f (postfixed g a) k h = refl
   settled_spine f (infixed g a b) k h =
       settled_spine f b (pending (infixing g a) ∷ k) (omega arith)
-      ∙ ap (λ (v : Taker). decided v (settled t f k (infixed g a b)) (standing (fixity_in t f) f (pending (infixing g a) ∷ k) b)) (taker_left (operator_in t g) (operator_in t f) (omega arith))
+      ∙ ap (λ (v : Option Taker). decided v (settled t f k (infixed g a b)) (standing (fixity_in t f) f (pending (infixing g a) ∷ k) b)) (taker_left (operator_in t g) (operator_in t f) (omega arith))
 
   -- a sign where an operand is due, and where an operator is due
   operand_sign : (s : List ℕ) (f : ℕ) (k : List Frame) → listed t Before s ≡ Some f → operand_step t (kind_of_spelling s) s k ≡ operand_due (pending (prefixing f) ∷ k)
@@ -122,7 +122,7 @@ module _ (t : Table) where
     settled_here f [] b a = refl
     settled_here f (bracket ∷ k) b a = refl
     settled_here f (pending u ∷ k) b a =
-        ap (λ (v : Taker). decided v (settled t f k (completed u b)) (standing (fixity_in t f) f (pending u ∷ k) b))
+        ap (λ (v : Option Taker). decided v (settled t f k (completed u b)) (standing (fixity_in t f) f (pending u ∷ k) b))
         (taker_right (operator_in t (function_of u)) (operator_in t f) (λ h. never_both t lawful (function_of u) f h a) a)
 
     step_after : (f : ℕ) (x : Fixity) (b : Bracketed) (k : List Frame) → fixity_in t f ≡ Some x → position_in x ≡ After → Admits k (operator_in t f).priority → right_weight t b ≤ left_limit (operator_in t f) → step t (operator_due (spine b k) (tip b)) (sign_of t f) ≡ standing (Some x) f k b

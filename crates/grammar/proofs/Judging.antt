@@ -1,5 +1,5 @@
 -- What the machine's states say of a text: the verdict that it comes to holds.
-use Rattle.std.proofs.Common.{◌≡◌, ℕ, List, [], ◌∷◌, ◌++◌, map, Some, None, Option, sym, refl, ap, ◌∙◌, subst, append_assoc, append-nil, arith}
+use Rattle.std.proofs.Common.{◌≡◌, ℕ, List, [], ◌∷◌, ◌++◌, map, Some, None, Option, sym, refl, ap, ◌∙◌, subst, append_assoc, append-nil}
 use Rattle.std.specs.List.{AllByRecursion}
 use Rattle.std.proofs.lemmas.List.{map-append, map_push}
 use Rattle.tokens.specs.Limits.{Lawful as LawfulByte}
@@ -39,7 +39,7 @@ module _ (t : Table) (lawful : LawfulTable t) (text : List ℕ) where
   unread e tree r =
       let found = finds_all t lawful r.reading.bracketed r.reading.lawful in
       let same = ap (accepted t) r.reading.tokens in
-      let z : ◌≡◌ {A = ℕ} 0 1 = cc in omega arith
+      cc
 
   -- it fails at its end if the machine refused no token but has no tree
   pub fails_at_end_lem : (run t start (lexemes_of text) ≡ refused → ⊥) → accepted t (lexemes_of text) ≡ None → FailsAtEnd t text
@@ -75,8 +75,8 @@ module _ (t : Table) (lawful : LawfulTable t) (text : List ℕ) (bytes : AllByRe
   end_holds (Some b) e n = found_reads t lawful text bytes b e
 
   next_holds : (st : State) (front : List Placed) (x : Placed) (rest : List Placed) (further : Verdict) → tokens_of text ≡ front ++ (x ∷ rest) → (run t start (map lexeme front) ≡ refused → ⊥) → step t (run t start (map lexeme front)) (lexeme x) ≡ st → ((st ≡ refused → ⊥) → Holds t text further) → Holds t text (judged_next st front x further)
-  next_holds (operand_due k) front x rest further split n e h = h (λ d. let z : ◌≡◌ {A = ℕ} 0 1 = cc in omega arith)
-  next_holds (operator_due k b) front x rest further split n e h = h (λ d. let z : ◌≡◌ {A = ℕ} 0 1 = cc in omega arith)
+  next_holds (operand_due k) front x rest further split n e h = h (λ d. cc)
+  next_holds (operator_due k b) front x rest further split n e h = h (λ d. cc)
   next_holds refused front x rest further split n e h = fails_at_lem t lawful text front x rest split n e
 
   from_holds : (rest front : List Placed) (st : State) → tokens_of text ≡ front ++ rest → run t start (map lexeme front) ≡ st → (st ≡ refused → ⊥) → Holds t text (judged_from t st front rest)
@@ -90,4 +90,4 @@ module _ (t : Table) (lawful : LawfulTable t) (text : List ℕ) (bytes : AllByRe
       (λ m. from_holds rest (front ++ (x ∷ [])) next (split ∙ sym (append_assoc front (x ∷ []) rest)) after m)
 
   pub judged_holds : Holds t text (judged t text)
-  judged_holds = from_holds (tokens_of text) [] start refl refl (λ d. let z : ◌≡◌ {A = ℕ} 0 1 = cc in omega arith)
+  judged_holds = from_holds (tokens_of text) [] start refl refl (λ d. cc)

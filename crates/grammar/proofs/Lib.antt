@@ -8,7 +8,6 @@ pub mod Soundness
 pub mod Stated
 pub mod Tables
 pub mod Takers
-pub mod Tested
 pub mod Texts
 pub mod Told
 pub mod Uniqueness

@@ -14,7 +14,7 @@ use Rattle.notation.specs.Tables.{Table, LawfulTable, listed}
 use Rattle.grammar.specs.declared.due.Due.{Due}
 use Rattle.grammar.specs.declared.due.Due.TheVariants.{Operator}
 use Rattle.grammar.specs.declared.taker.Taker.{Taker}
-use Rattle.grammar.specs.declared.taker.Taker.TheVariants.{Left, Right, Neither}
+use Rattle.grammar.specs.declared.taker.Taker.TheVariants.{Left, Right}
 use Rattle.grammar.specs.Trees.{Bracketed, erase}
 use Rattle.grammar.specs.Weights.{fixity_in, operator_in}
 use Rattle.grammar.specs.Neighbours.{taker}
@@ -52,18 +52,18 @@ standing_opens (Some prefix) f k b n e = tt
 standing_opens (Some postfix) f k b n e = e
 standing_opens (Some between) f k b n e = e
 
-decided_opens : (v : Taker) (further here : State) (n : ℕ) → Opens further n → Opens here n → Opens (decided v further here) n
-decided_opens Left further here n f h = f
-decided_opens Right further here n f h = h
-decided_opens Neither further here n f h = tt
+decided_opens : (v : Option Taker) (further here : State) (n : ℕ) → Opens further n → Opens here n → Opens (decided v further here) n
+decided_opens (Some Left) further here n f h = f
+decided_opens (Some Right) further here n f h = h
+decided_opens None further here n f h = tt
 
 closed_refused : (k : List Frame) (b : Bracketed) → closed k b ≡ refused → brackets k ≡ 0
 closed_refused [] b e = refl
-closed_refused (bracket ∷ k) b e = let z : ◌≡◌ {A = ℕ} 0 1 = cc in absurd (omega arith)
+closed_refused (bracket ∷ k) b e = cc
 closed_refused (pending u ∷ k) b e = closed_refused k (completed u b) e
 
 ended_none : (k : List Frame) (b : Bracketed) → ended k b ≡ None → 0 < brackets k
-ended_none [] b e = let z : ◌≡◌ {A = ℕ} 0 1 = cc in absurd (omega arith)
+ended_none [] b e = cc
 ended_none (bracket ∷ k) b e = omega arith
 ended_none (pending u ∷ k) b e = ended_none k (completed u b) e
 
@@ -107,19 +107,19 @@ module _ (t : Table) where
 
   -- a `)` that the state refuses, and an end that it does not accept
   close_unmatched : (st : State) (d : Due) (n : ℕ) (x : Lexeme) → (st ≡ refused → ⊥) → Tells st d → Opens st n → d ≡ Operator → x.kind ≡ Close → step t st x ≡ refused → n ≡ 0
-  close_unmatched (operand_due k) d n x live tells opens op kind e = let z : ◌≡◌ {A = ℕ} 0 1 = cc in absurd (omega arith)
+  close_unmatched (operand_due k) d n x live tells opens op kind e = cc
   close_unmatched (operator_due k b) d n x live tells opens op kind e =
       opens ∙ closed_refused k b (sym (ap (λ (j : TokenKind). operator_step t j x.bytes k b) kind) ∙ e)
   close_unmatched refused d n x live tells opens op kind e = absurd (live refl)
 
   end_unmatched : (st : State) (d : Due) (n : ℕ) → (st ≡ refused → ⊥) → Tells st d → Opens st n → d ≡ Operator → outcome st ≡ None → 0 < n
-  end_unmatched (operand_due k) d n live tells opens op e = let z : ◌≡◌ {A = ℕ} 0 1 = cc in absurd (omega arith)
+  end_unmatched (operand_due k) d n live tells opens op e = cc
   end_unmatched (operator_due k b) d n live tells opens op e = omega (arith, ended_none k b e)
   end_unmatched refused d n live tells opens op e = absurd (live refl)
 
 refused_or : (st : State) → ((st ≡ refused → ⊥) → ⊥) → st ≡ refused
-refused_or (operand_due k) h = absurd (h (λ e. let z : ◌≡◌ {A = ℕ} 0 1 = cc in omega arith))
-refused_or (operator_due k b) h = absurd (h (λ e. let z : ◌≡◌ {A = ℕ} 0 1 = cc in omega arith))
+refused_or (operand_due k) h = absurd (h (λ e. cc))
+refused_or (operator_due k b) h = absurd (h (λ e. cc))
 refused_or refused h = refl
 
 none_or : (o : Option Bracketed) → ((b : Bracketed) → o ≡ Some b → ⊥) → o ≡ None

@@ -1,6 +1,8 @@
 -- The worked examples, by one test that computes the machine's verdicts.
 use Rattle.std.proofs.Common.{◌≡◌, ℕ, Bool, true, false, ◌&&◌, eqb, List, Ok, Err, Result, sym, refl, ap, ◌∙◌, subst}
-use Rattle.std.specs.List.{AllByRecursion}
+use Rattle.std.specs.List.{AllByRecursion, list_all}
+use Rattle.std.proofs.lemmas.List.Elements.{recursion_from_All}
+use Rattle.std.proofs.lemmas.List.Sums.{AllPass-from_list_all}
 use Rattle.std.specs.Str.{bytes_eq}
 use Rattle.std.proofs.ByRecursion.{All-weaker}
 use Rattle.std.proofs.lemmas.Slice.Eq.{bytes_eq-Decides}
@@ -27,8 +29,11 @@ use Rattle.grammar.specs.Examples.{example_rows, example_table, Example, Shown, 
 use Rattle.grammar.specs.Examples.Example.{reads_as, refused_with, written_as}
 use Rattle.grammar.proofs.Judging.{judged, judged_holds}
 use Rattle.notation.specs.RowsLemmas.{rows_lawful}
-use Rattle.grammar.proofs.Tested.{every, every_passes}
 use Rattle.grammar.proofs.Writings.{writes_fewest, writable_is_readable}
+
+-- a test that passes of a list does of each element
+each_passes : {X : Type 0} (test : X → Bool) (xs : List X) → list_all test xs ≡ true → AllByRecursion (λ x. test x ≡ true) xs
+each_passes test xs e = recursion_from_All (λ x. test x ≡ true) xs (AllPass-from_list_all test xs e)
 
 -- bytes that may stand in an expression
 abbrev is_lawful : ByteClass → Bool
@@ -40,11 +45,11 @@ is_lawful C.Space = true
 is_lawful C.Unlawful = false
 
 abbrev are_lawful : List ℕ → Bool
-are_lawful text = every (λ b. is_lawful (class_of b)) text
+are_lawful text = list_all (λ b. is_lawful (class_of b)) text
 
 lawful_bytes : (text : List ℕ) → are_lawful text ≡ true → AllByRecursion LawfulByte text
 lawful_bytes text e =
-    All-weaker (λ b. is_lawful (class_of b) ≡ true) LawfulByte (λ b h unlawful. false≢true (sym (ap is_lawful unlawful) ∙ h)) text (every_passes (λ b. is_lawful (class_of b)) text e)
+    All-weaker (λ b. is_lawful (class_of b) ≡ true) LawfulByte (λ b h unlawful. false≢true (sym (ap is_lawful unlawful) ∙ h)) text (each_passes (λ b. is_lawful (class_of b)) text e)
 
 -- equal trees, verdicts and answers
 abbrev same_tree : Tree → Tree → Bool
@@ -60,17 +65,17 @@ same_tree (two f w x) (two g y z) = eqb f g && (same_tree w y && same_tree x z)
 
 same_tree_lem : (x y : Tree) → same_tree x y ≡ true → x ≡ y
 same_tree_lem (name v) (name w) e = ap name ((bytes_eq-Decides v w).0 e)
-same_tree_lem (name v) (one g y) e = absurd (false≢true e)
-same_tree_lem (name v) (two g y z) e = absurd (false≢true e)
-same_tree_lem (one f x) (name w) e = absurd (false≢true e)
+same_tree_lem (name v) (one g y) e = cc
+same_tree_lem (name v) (two g y z) e = cc
+same_tree_lem (one f x) (name w) e = cc
 same_tree_lem (one f x) (one g y) e =
     let (number, rest) = and_parts (eqb f g) (same_tree x y) e in
     let function : f ≡ g = eqb-true f g number in
     let operand : x ≡ y = same_tree_lem x y rest in
     cc
-same_tree_lem (one f x) (two g y z) e = absurd (false≢true e)
-same_tree_lem (two f w x) (name v) e = absurd (false≢true e)
-same_tree_lem (two f w x) (one g y) e = absurd (false≢true e)
+same_tree_lem (one f x) (two g y z) e = cc
+same_tree_lem (two f w x) (name v) e = cc
+same_tree_lem (two f w x) (one g y) e = cc
 same_tree_lem (two f w x) (two g y z) e =
     let (number, rest) = and_parts (eqb f g) (same_tree w y && same_tree x z) e in
     let (l, r) = and_parts (same_tree w y) (same_tree x z) rest in
@@ -86,15 +91,15 @@ is_reading fails_at_end y = false
 
 reading : (v : Verdict) (tree : Tree) → is_reading v tree ≡ true → v ≡ reads tree
 reading (reads x) tree e = ap reads (same_tree_lem x tree e)
-reading (fails_at front x) tree e = absurd (false≢true e)
-reading fails_at_end tree e = absurd (false≢true e)
+reading (fails_at front x) tree e = cc
+reading fails_at_end tree e = cc
 
 abbrev is_refusal : Result Tree Fault → ℕ → ℕ → Bool
 is_refusal (Ok x) n place = false
 is_refusal (Err f) n place = eqb (number_of f.kind) n && eqb f.place place
 
 refusal : (r : Result Tree Fault) (n place : ℕ) → is_refusal r n place ≡ true → (k : FaultKind) × (number_of k ≡ n) × (Err (fault k place) ≡ r)
-refusal (Ok x) n place e = absurd (false≢true e)
+refusal (Ok x) n place e = cc
 refusal (Err f) n place e =
     let (number, at) = and_parts (eqb (number_of f.kind) n) (eqb f.place place) e in
     (f.kind, eqb-true (number_of f.kind) n number, ap (λ p. Err (fault f.kind p)) (sym (eqb-true f.place place at)))
@@ -128,10 +133,10 @@ example_lawful : LawfulTable example_table
 unfolding kind_of
 example_lawful = rows_lawful example_rows refl
 
-passed : every (is_shown example_table) examples ≡ true
+passed : list_all (is_shown example_table) examples ≡ true
 unfolding listed tokens_from kind_of is_name kind_of_spelling
 passed = refl
 
 pub examples_hold : ExamplesHold
 examples_hold =
-    (example_lawful, All-weaker (λ x. is_shown example_table x ≡ true) (Shown example_table) (shown example_table example_lawful) examples (every_passes (is_shown example_table) examples passed))
+    (example_lawful, All-weaker (λ x. is_shown example_table x ≡ true) (Shown example_table) (shown example_table example_lawful) examples (each_passes (is_shown example_table) examples passed))

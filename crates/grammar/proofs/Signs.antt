@@ -1,6 +1,6 @@
 -- What the well-formed tokens are: the two brackets, and spellings of the kind of their first byte. Assumes nothing.
 use Rattle.std.proofs.Common.{◌≡◌, ℕ, Bool, true, false, cond, eqb, ◌⊎◌, List, [], ◌∷◌, Some, codes, refl, ap, subst, inl, inr, ⊎_elim, arith}
-use Rattle.std.proofs.lemmas.Bool.{false≢true, cases_Bool, or_cases, eqb-true}
+use Rattle.std.proofs.lemmas.Bool.{cases_Bool, or_cases, eqb-true}
 use Rattle.tokens.specs.declared.byte.ByteClass.TheVariants as C
 use Rattle.tokens.specs.declared.token.TokenKind.{TokenKind}
 use Rattle.tokens.specs.declared.token.TokenKind.TheVariants.{Word, Symbol, Open, Close}
@@ -20,8 +20,8 @@ tested true s o c b k e = let same : Word ≡ k = cc in subst (λ (j : TokenKind
 tested false true o c b k e = let same : Symbol ≡ k = cc in subst (λ (j : TokenKind). Tested j false true o c) same refl
 tested false false true c b k e = let same : Open ≡ k = cc in subst (λ (j : TokenKind). Tested j false false true c) same refl
 tested false false false true b k e = let same : Close ≡ k = cc in subst (λ (j : TokenKind). Tested j false false false true) same refl
-tested false false false false true k e = let z : ◌≡◌ {A = ℕ} 0 1 = cc in absurd (omega arith)
-tested false false false false false k e = let z : ◌≡◌ {A = ℕ} 0 1 = cc in absurd (omega arith)
+tested false false false false true k e = cc
+tested false false false false false k e = cc
 
 byte_tested : (b : ℕ) (k : TokenKind) → kind_of b ≡ Some k → Tested k (is_word_byte b) (is_symbol_byte b) (is_in (codes "(") b) (is_in (codes ")") b)
 unfolding kind_of
@@ -39,7 +39,7 @@ symbol_kind [] h = absurd (omega (arith, h.some))
 symbol_kind (b ∷ s) h = ap (λ (v : Bool). cond v Word Symbol) (byte_tested b Symbol h.alike.0)
 
 only_one : (x b : ℕ) → is_in (x ∷ []) b ≡ true → b ≡ x
-only_one x b e = ⊎_elim (eqb-true b x) (λ h. absurd (false≢true h)) (or_cases (eqb b x) false e)
+only_one x b e = ⊎_elim (eqb-true b x) (λ h. cc) (or_cases (eqb b x) false e)
 
 -- a bracket is its one byte
 pub opening_is : (w : List ℕ) → WellFormed Open w → w ≡ codes "("

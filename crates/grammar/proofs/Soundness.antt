@@ -10,7 +10,7 @@ use Rattle.notation.specs.Operators.{Fixity}
 use Rattle.notation.specs.Operators.Fixity.{prefix, postfix, between}
 use Rattle.notation.specs.Tables.{Table, listed}
 use Rattle.grammar.specs.declared.taker.Taker.{Taker}
-use Rattle.grammar.specs.declared.taker.Taker.TheVariants.{Left, Right, Neither}
+use Rattle.grammar.specs.declared.taker.Taker.TheVariants.{Left, Right}
 use Rattle.grammar.specs.Trees.{Bracketed}
 use Rattle.grammar.specs.Weights.{fixity_in, operator_in, left_weight, right_weight, AdmitsLeft}
 use Rattle.grammar.specs.Lawful.{Name, Lawful}
@@ -34,7 +34,7 @@ sign_token s w k e d = ap sign e ∙ ap (λ (j : TokenKind). token j w) d
 
 none_is : (o : Option ℕ) → not (is_some o) ≡ true → o ≡ None
 none_is None e = refl
-none_is (Some f) e = absurd (false≢true e)
+none_is (Some f) e = cc
 
 module _ (t : Table) where
   tested_name : (w : List ℕ) → WellFormed Word w → is_name t w ≡ true → Name t w
@@ -93,14 +93,14 @@ module _ (t : Table) where
 
     ended_held : (k : List Frame) (b c : Bracketed) → Waits k → Lawful t b → Admits t k (left_weight t b) → below k (followed t b []) ≡ whole → ended k b ≡ Some c → Lawful t c × (followed t c [] ≡ whole)
     ended_held [] b c w l a e h = let same : b ≡ c = cc in (subst (Lawful t) same l, ap (λ (x : Bracketed). followed t x []) (sym same) ∙ e)
-    ended_held (bracket ∷ k) b c w l a e h = let z : ◌≡◌ {A = ℕ} 0 1 = cc in absurd (omega arith)
+    ended_held (bracket ∷ k) b c w l a e h = cc
     ended_held (pending u ∷ k) b c w l a e h =
         let (waits, law, room) = completed_lawful u k b w l a in ended_held k (completed u b) c waits law room (sym (completed_below u k b []) ∙ e) h
 
-    decided_held : (rest : List Lexeme) (v : Taker) (further here : State) → (v ≡ Left → Held rest further) → (v ≡ Right → Held rest here) → Held rest (decided v further here)
-    decided_held rest Left further here f h = f refl
-    decided_held rest Right further here f h = h refl
-    decided_held rest Neither further here f h = tt
+    decided_held : (rest : List Lexeme) (v : Option Taker) (further here : State) → (v ≡ Some Left → Held rest further) → (v ≡ Some Right → Held rest here) → Held rest (decided v further here)
+    decided_held rest (Some Left) further here f h = f refl
+    decided_held rest (Some Right) further here f h = h refl
+    decided_held rest None further here f h = tt
 
     standing_held : (rest : List Lexeme) (x : Option Fixity) (f : ℕ) (k : List Frame) (b : Bracketed) → fixity_in t f ≡ x → Waits k → Lawful t b → Admits t k (max (operator_in t f).priority (left_weight t b)) → AdmitsLeft t f b → below k (followed t b (sign_of t f ∷ rest)) ≡ whole → Held rest (standing x f k b)
     standing_held rest None f k b x w l a r e = tt
@@ -152,9 +152,9 @@ module _ (t : Table) where
     run_held (x ∷ xs) st h held = run_held xs (step t st x) h.1 (step_held xs st x h.0 held)
 
     outcome_held : (st : State) (b : Bracketed) → Held [] st → outcome st ≡ Some b → Lawful t b × (followed t b [] ≡ whole)
-    outcome_held (operand_due k) b held e = let z : ◌≡◌ {A = ℕ} 0 1 = cc in absurd (omega arith)
+    outcome_held (operand_due k) b held e = cc
     outcome_held (operator_due k a) b (w, l, m, r, d) e = ended_held k a b w l m d e
-    outcome_held refused b held e = let z : ◌≡◌ {A = ℕ} 0 1 = cc in absurd (omega arith)
+    outcome_held refused b held e = cc
 
   pub finds_only : (xs : List Lexeme) → AllByRecursion Formed xs → (b : Bracketed) → accepted t xs ≡ Some b → Lawful t b × (lexemes t b ≡ xs)
   finds_only xs h b e =

@@ -10,7 +10,7 @@ use Rattle.notation.specs.Tables.{Table, listed}
 use Rattle.grammar.specs.declared.due.Due.{Due}
 use Rattle.grammar.specs.declared.due.Due.TheVariants.{Operand, Operator}
 use Rattle.grammar.specs.declared.taker.Taker.{Taker}
-use Rattle.grammar.specs.declared.taker.Taker.TheVariants.{Left, Right, Neither}
+use Rattle.grammar.specs.declared.taker.Taker.TheVariants.{Left, Right}
 use Rattle.grammar.specs.Trees.{Bracketed}
 use Rattle.grammar.specs.Weights.{fixity_in, operator_in}
 use Rattle.grammar.specs.Neighbours.{taker}
@@ -31,10 +31,10 @@ standing_tells (Some prefix) f k b = tt
 standing_tells (Some postfix) f k b = refl
 standing_tells (Some between) f k b = refl
 
-decided_tells : (v : Taker) (further here : State) (d : Due) → Tells further d → Tells here d → Tells (decided v further here) d
-decided_tells Left further here d f h = f
-decided_tells Right further here d f h = h
-decided_tells Neither further here d f h = tt
+decided_tells : (v : Option Taker) (further here : State) (d : Due) → Tells further d → Tells here d → Tells (decided v further here) d
+decided_tells (Some Left) further here d f h = f
+decided_tells (Some Right) further here d f h = h
+decided_tells None further here d f h = tt
 
 module _ (t : Table) where
   settled_tells : (f : ℕ) (k : List Frame) (b : Bracketed) → Tells (settled t f k b) (due_behind (fixity_in t f))

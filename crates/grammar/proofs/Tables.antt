@@ -26,7 +26,7 @@ pub record Present (t : Table) (f : ℕ) (x : Fixity) : Type 0 where
   pub stands : fixity_of op.form ≡ x
 
 present_at : (t : Table) (f : ℕ) (x : Fixity) (v : Option Op) → t f ≡ v → option_map (λ o. fixity_of o.form) v ≡ Some x → Present t f x
-present_at t f x None has e = let z : ◌≡◌ {A = ℕ} 0 1 = cc in absurd (omega arith)
+present_at t f x None has e = cc
 present_at t f x (Some o) has e = record { op = o; has = has; is = ap or_absent has; stands = (cc) }
 
 pub present : (t : Table) (f : ℕ) (x : Fixity) → fixity_in t f ≡ Some x → Present t f x
@@ -46,8 +46,8 @@ listed_sign t p s f e =
 
 prefix_is : (x : Fixity) → position_in x ≡ Before → x ≡ prefix
 prefix_is prefix e = refl
-prefix_is postfix e = let z : ◌≡◌ {A = ℕ} 0 1 = cc in absurd (omega arith)
-prefix_is between e = let z : ◌≡◌ {A = ℕ} 0 1 = cc in absurd (omega arith)
+prefix_is postfix e = cc
+prefix_is between e = cc
 
 -- what is listed before is a prefix operator
 pub listed_prefix : (t : Table) (s : List ℕ) (f : ℕ) → listed t Before s ≡ Some f → fixity_in t f ≡ Some prefix
@@ -106,7 +106,7 @@ module _ (t : Table) (lawful : LawfulTable t) where
   pub long_name : Name t (replicate 13 97)
   long_name =
       record {
-        word = record { some = omega arith; alike = letters 13; alone = λ e. let z : ◌≡◌ {A = ℕ} 0 1 = cc in absurd (omega arith) };
+        word = record { some = omega arith; alike = letters 13; alone = λ e. cc };
         short = omega arith;
         before = long_unlisted Before;
         after = long_unlisted After;

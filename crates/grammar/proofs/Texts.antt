@@ -18,10 +18,10 @@ use Rattle.grammar.proofs.Tables.{sign_formed}
 
 -- the bytes of a token may stand in an expression
 kind_lawful : (b : ℕ) (k : TokenKind) → kind_of b ≡ Some k → LawfulByte b
-kind_lawful b k e unlawful = let none = separator_none b (inr unlawful) in let z : ◌≡◌ {A = ℕ} 0 1 = cc in omega arith
+kind_lawful b k e unlawful = let none = separator_none b (inr unlawful) in cc
 
 space_lawful : (s : Bool) → AllByRecursion LawfulByte (cond s (codes " ") [])
-space_lawful true = (λ e. let z : ◌≡◌ {A = ℕ} 0 1 = cc in omega arith, tt)
+space_lawful true = (λ e. cc, tt)
 space_lawful false = tt
 
 gap_lawful : (last : Option TokenKind) (k : TokenKind) → AllByRecursion LawfulByte (gap last k)

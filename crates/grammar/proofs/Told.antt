@@ -1,19 +1,16 @@
 -- The answer to a text, from the state that the machine is in: what a reader that follows the machine has to show.
-use Rattle.std.proofs.Common.{◌≡◌, ℕ, List, ◌∷◌, ◌++◌, map, length, Some, None, Ok, Err, sym, refl, ap, ◌∙◌}
-use Rattle.std.specs.List.{AllByRecursion}
+use Rattle.std.proofs.Common.{◌≡◌, ℕ, List, ◌∷◌, ◌++◌, map, length, None, Err, sym, refl, ap, ◌∙◌}
 use Rattle.tokens.specs.Faults.{fault}
-use Rattle.tokens.specs.Limits.{Lawful as LawfulByte}
 use Rattle.tokens.specs.Spacing.{lexemes_of}
 use Rattle.tokens.specs.Tokens.{Placed, lexeme, tokens_of}
 use Rattle.notation.specs.Tables.{Table, LawfulTable}
 use Rattle.grammar.specs.declared.due.Due.{Due}
-use Rattle.grammar.specs.Trees.{Bracketed, erase}
 use Rattle.grammar.specs.Machine.{State, start, step, run, accepted}
 use Rattle.grammar.specs.Machine.State.{operand_due, operator_due, refused}
 use Rattle.grammar.specs.Dues.{due_after, Tells}
-use Rattle.grammar.specs.Verdicts.Verdict.{reads, fails_at, fails_at_end}
+use Rattle.grammar.specs.Verdicts.Verdict.{fails_at, fails_at_end}
 use Rattle.grammar.specs.Refusals.{fault_at, fault_at_end, Answered}
-use Rattle.grammar.proofs.Judging.{fails_at_lem, fails_at_end_lem, found_reads}
+use Rattle.grammar.proofs.Judging.{fails_at_lem, fails_at_end_lem}
 use Rattle.grammar.proofs.Stated.{machine_tells_due}
 
 same_due : (st : State) (d e : Due) → (st ≡ refused → ⊥) → Tells st d → Tells st e → d ≡ e
@@ -33,7 +30,3 @@ module _ (t : Table) (lawful : LawfulTable t) (text : List ℕ) where
   answered_at_end d n told e =
       let due = same_due (run t start (lexemes_of text)) d (due_after t (lexemes_of text)) n told (machine_tells_due t lawful (lexemes_of text)) in
       (fails_at_end, fails_at_end_lem t lawful text n e, ap (λ (v : Due). Err (fault (fault_at_end v) (length text))) due)
-
-  -- it has the bracketed tree b at the end
-  pub answered_tree : AllByRecursion LawfulByte text → (b : Bracketed) → accepted t (lexemes_of text) ≡ Some b → Answered t text (Ok (erase b))
-  answered_tree bytes b e = (reads (erase b), found_reads t lawful text bytes b e, refl)

@@ -13,7 +13,7 @@ use Rattle.grammar.specs.Trees.Bracketed.{named, pair, prefixed, postfixed, infi
 use Rattle.grammar.specs.Weights.{fixity_in, operator_in, AdmitsLeft, AdmitsRight, admits_left, admits_right}
 use Rattle.grammar.specs.Lawful.{Lawful}
 use Rattle.grammar.specs.Reading.{closing, kind_of_spelling, sign_of, lexemes, ReadsTokens, Reads}
-use Rattle.grammar.specs.Writing.{paired, write_one, write, written, HasOperator, Writable, WritesFewest, OneFewest, WritableIsReadable}
+use Rattle.grammar.specs.Writing.{paired, write_one, write, written, HasOperator, Writable, WritesFewest, WritableIsReadable}
 use Rattle.grammar.proofs.Signs.{kind_cases}
 use Rattle.grammar.proofs.Tables.{present}
 use Rattle.grammar.proofs.Texts.{spaces}
@@ -67,12 +67,12 @@ module _ (t : Table) where
   right_admitted f b false e = omega arith
 
   one_lawful : (x : Option Fixity) (f : ℕ) (b : Bracketed) → fixity_in t f ≡ x → (x ≡ Some prefix) ⊎ (x ≡ Some postfix) → Lawful t b → Lawful t (write_one t x f b)
-  one_lawful None f b e (inl h) l = let z : ◌≡◌ {A = ℕ} 0 1 = cc in absurd (omega arith)
-  one_lawful None f b e (inr h) l = let z : ◌≡◌ {A = ℕ} 0 1 = cc in absurd (omega arith)
+  one_lawful None f b e (inl h) l = cc
+  one_lawful None f b e (inr h) l = cc
   one_lawful (Some prefix) f b e h l = (e, right_admitted f b (admits_right t f b) refl, paired_lawful (admits_right t f b) b l)
   one_lawful (Some postfix) f b e h l = (e, left_admitted f b (admits_left t f b) refl, paired_lawful (admits_left t f b) b l)
-  one_lawful (Some between) f b e (inl h) l = let z : ◌≡◌ {A = ℕ} 0 1 = cc in absurd (omega arith)
-  one_lawful (Some between) f b e (inr h) l = let z : ◌≡◌ {A = ℕ} 0 1 = cc in absurd (omega arith)
+  one_lawful (Some between) f b e (inl h) l = cc
+  one_lawful (Some between) f b e (inr h) l = cc
 
   -- an operator with one operand is a prefix or a postfix one, an operator with two an infix one
   one_fixity : (x : Fixity) → operands_in x ≡ 1 → (Some x ≡ Some prefix) ⊎ (Some x ≡ Some postfix)
@@ -136,9 +136,6 @@ writes_fewest t lawful tree h =
       count = count;
       fewest = record { text = written t tree; reads = s.reads; pairs = count; least = least t tree };
     }
-
-pub one_fewest : OneFewest
-one_fewest t tree m n p q = omega (arith, p.least q.text q.reads, q.least p.text p.reads, p.pairs, q.pairs)
 
 pub writable_is_readable : WritableIsReadable
 writable_is_readable t lawful tree = (

@@ -9,7 +9,7 @@ use Rattle.notation.specs.Operators.{Fixity}
 use Rattle.notation.specs.Operators.Fixity.{prefix, postfix, between}
 use Rattle.notation.specs.Tables.{Table, LawfulTable, listed}
 use Rattle.grammar.specs.declared.taker.Taker.{Taker}
-use Rattle.grammar.specs.declared.taker.Taker.TheVariants.{Left, Right, Neither}
+use Rattle.grammar.specs.declared.taker.Taker.TheVariants.{Left, Right}
 use Rattle.grammar.specs.Trees.{Bracketed}
 use Rattle.grammar.specs.Trees.Bracketed.{named, pair, prefixed, postfixed, infixed}
 use Rattle.grammar.specs.Weights.{fixity_in, operator_in}
@@ -71,10 +71,10 @@ standing (Some postfix) f k b = operator_due k (postfixed f b)
 standing (Some between) f k b = operand_due (pending (infixing f b) ∷ k)
 
 -- the left neighbour takes the operand and the right one goes on, or the right one takes it, or neither may
-abbrev pub decided : Taker → State → State → State
-decided Left further here = further
-decided Right further here = here
-decided Neither further here = refused
+abbrev pub decided : Option Taker → State → State → State
+decided (Some Left) further here = further
+decided (Some Right) further here = here
+decided None further here = refused
 
 -- a word or a symbol where an operand is due: the prefix operator that is listed under it, else the name that it is
 abbrev pub begun : List ℕ → Option ℕ → Bool → List Frame → State

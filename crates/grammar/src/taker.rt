@@ -1,9 +1,8 @@
 // Neighbours: which of two operators takes the operand between them.
 
-// The operator on its left, the one on its right, or neither.
-#[derive(Clone, Copy)]
+// The operator on its left or the one on its right. Where neither may take it, there is no taker.
+#[derive(Clone, Copy, PartialEq, Eq)]
 pub enum Taker {
     Left,
     Right,
-    Neither,
 }

@@ -11,127 +11,91 @@ ghost use Rattle.grammar.specs.Writing.{OneFewest, WritableIsReadable, WritesFew
 
 // Of two neighbouring operators the one with the smaller priority takes the operand between them, and
 // between equals their types decide.
-pub fn neighbours_decided() -> u8
+pub fn neighbours_decided()
     ensures { NeighboursDecided }
-{
-    0
-}
+{}
 
 // Every lawful bracketed tree decides so between its neighbours.
-pub fn trees_decide_so() -> u8
+pub fn trees_decide_so()
     ensures { TreesDecideSo }
-{
-    0
-}
+{}
 
 // The reading machine finds every lawful bracketed tree from its tokens.
-pub fn machine_finds_all() -> u8
+pub fn machine_finds_all()
     ensures { MachineFindsAll }
-{
-    0
-}
+{}
 
 // What it finds from well-formed tokens is lawful, and has just those tokens.
-pub fn machine_finds_only_lawful() -> u8
+pub fn machine_finds_only_lawful()
     ensures { MachineFindsOnlyLawful }
-{
-    0
-}
+{}
 
 // Tokens have at most one lawful bracketed tree.
-pub fn at_most_one_bracketed_tree() -> u8
+pub fn at_most_one_bracketed_tree()
     ensures { AtMostOneBracketedTree }
-{
-    0
-}
+{}
 
 // A text reads as at most one tree.
-pub fn at_most_one_tree() -> u8
+pub fn at_most_one_tree()
     ensures { AtMostOneTree }
-{
-    0
-}
+{}
 
 // Tokens that read are well formed, and their spaced text has them and reads.
-pub fn spaced_tokens_read() -> u8
+pub fn spaced_tokens_read()
     ensures { SpacedTokensRead }
-{
-    0
-}
+{}
 
 // Some text that begins with these tokens reads exactly if some list of tokens does.
-pub fn texts_live_as_tokens() -> u8
+pub fn texts_live_as_tokens()
     ensures { TextsLiveAsTokens }
-{
-    0
-}
+{}
 
 // Where the machine has refused, no text that begins so reads.
-pub fn refused_is_dead() -> u8
+pub fn refused_is_dead()
     ensures { RefusedIsDead }
-{
-    0
-}
+{}
 
 // Where it has not, some text that begins so reads.
-pub fn unrefused_is_live() -> u8
+pub fn unrefused_is_live()
     ensures { UnrefusedIsLive }
-{
-    0
-}
+{}
 
 // Where the machine has not refused, its state tells what is due.
-pub fn machine_tells_due() -> u8
+pub fn machine_tells_due()
     ensures { MachineTellsDue }
-{
-    0
-}
+{}
 
 // A text reads as a tree, or fails at one token, or fails at its end, and only one of these.
-pub fn one_verdict() -> u8
+pub fn one_verdict()
     ensures { OneVerdict }
-{
-    0
-}
+{}
 
 // A text has one answer: its tree, or one fault at one place.
-pub fn one_answer() -> u8
+pub fn one_answer()
     ensures { OneAnswer }
-{
-    0
-}
+{}
 
 // A bracket fault is told exactly where a bracket has no partner.
-pub fn unmatched_is_unmatched() -> u8
+pub fn unmatched_is_unmatched()
     ensures { UnmatchedIsUnmatched }
-{
-    0
-}
+{}
 
 // What the writing rule writes for a tree reads as that tree, with the fewest pairs of brackets.
-pub fn writes_fewest() -> u8
+pub fn writes_fewest()
     ensures { WritesFewest }
-{
-    0
-}
+{}
 
 // The fewest pairs for a tree are one number.
-pub fn one_fewest() -> u8
+pub fn one_fewest()
     ensures { OneFewest }
-{
-    0
-}
+{}
 
 // A tree can be written exactly if some text reads as it.
-pub fn writable_is_readable() -> u8
+pub fn writable_is_readable()
     ensures { WritableIsReadable }
-{
-    0
-}
+{}
 
 // The worked examples of reading, refusing and writing hold.
-pub fn examples_hold() -> u8
+pub fn examples_hold()
     ensures { ExamplesHold }
-{
-    0
-}
+{}

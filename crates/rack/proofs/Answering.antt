@@ -1,5 +1,5 @@
 -- A call on the tree at a root has one answer, and when it has which.
-use Rattle.std.proofs.Common.{◌≡◌, ℕ, ◌+◌, ◌-◌, ◌<◌, List, take, drop, Ok, Err, Result, sym, refl, ap, ◌∙◌, subst, inl, inr, ⊎_elim, arith}
+use Rattle.std.proofs.Common.{◌≡◌, ℕ, ◌+◌, ◌-◌, ◌<◌, List, take, drop, Ok, Err, Result, sym, ap, ◌∙◌, subst, inl, inr, ⊎_elim, arith}
 use Rattle.std.proofs.lemmas.Bool.{cases_order}
 use Rattle.tokens.specs.InOrder.{IfSome, Only, Refused, Accepted}
 use Rattle.tokens.specs.Faults.{fault}
@@ -26,13 +26,7 @@ module _ (rack : List Node) where
   none_unsound root sound i first = first.broken (sound i (omega (arith, first.up_to)))
 
   module _ {T : Type 0} (used root : ℕ) (rule : Tree → Result T Fault → Type 0) where
-    -- the three ways of an answer
-    pub at_no_root : NoRoot rack used root → AtTree rack used root rule (Err (fault NoSuchRoot 0))
-    at_no_root out = inl (out, refl)
-
-    pub at_unsound : (NoRoot rack used root → ⊥) → (f : Fault) → FirstUnsound rack root f.place × (f ≡ fault MalformedRack f.place) → AtTree rack used root rule (Err f)
-    at_unsound has f (first, is) = inr (has, inl (f.place, first, ap Err is))
-
+    -- an answer by the rule of the tree that lies there
     pub at_tree : (NoRoot rack used root → ⊥) → SoundBelow rack (root + 1) → (r : Result T Fault) → ((tree : Tree) → Lies rack root tree → rule tree r) → AtTree rack used root rule r
     at_tree has sound r h = let t = one_tree_lies rack root sound in inr (has, inr (none_unsound root sound, (t.0, t.1.is, h t.0 t.1.is)))
 

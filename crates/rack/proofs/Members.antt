@@ -1,9 +1,12 @@
 -- Bits of a number, and the set of a tree's functions that they make.
-use Rattle.std.proofs.Common.{◌≡◌, ℕ, zero, suc, ◌+◌, ◌-◌, ◌*◌, ◌/◌, ◌%◌, ◌^◌, ◌<◌, Bool, true, false, cond, ◌||◌, eqb, ltb, List, Ok, Err, Result, sym, refl, ap, ◌∙◌, inl, inr, ⊎_elim, mod-eq_of_lt, add_comm, pow-suc, arith}
-use native.Mathlib.Nat.{mul-mod_left, div-eq_of_lt}
+use Rattle.std.proofs.Common.{◌≡◌, ℕ, zero, suc, ◌+◌, ◌*◌, ◌/◌, ◌%◌, ◌^◌, ◌<◌, max, Bool, false, cond, ◌||◌, eqb, ltb, List, Ok, Err, Result, sym, refl, ap, ◌∙◌, inl, inr, ⊎_elim, mod-eq_of_lt, add_comm, arith}
 use lib.Bits.{bit_or}
 use lib.Count.{ones, ones_cat}
-use Rattle.std.proofs.lemmas.Nat.{pow_pos, pow-add, pow_below, shl-shr, mod-pow-add, mod_below, or_shr, or_mod}
+use Rattle.std.proofs.lemmas.Nat.{pow_pos, mod-pow-add, mod_below}
+use Rattle.std.proofs.Math.Bool.{or_comm}
+use Rattle.std.specs.Int.{bit_at}
+use Rattle.std.proofs.lemmas.Nat.Bits.{bit_at_or, bit_at-zero, bit_at-pow_same, bit_at-pow_other, bit_at-lt, same_from_bits}
+use Rattle.std.proofs.lemmas.Bool.Decides.{nat_tests}
 use Rattle.std.proofs.lemmas.Bool.{eq-eqb, ne_eqb, lt-ltb, cond-true, cases_order}
 use Rattle.tokens.specs.Faults.{fault}
 use Rattle.tokens.specs.InOrder.{Only, Refused}
@@ -22,69 +25,36 @@ use Rattle.rack.specs.Reckoning.{fold, ValueOf}
 use Rattle.rack.proofs.Answering.{at_tree_only, at_changed}
 use Rattle.rack.proofs.Postorder.{proper_tree}
 
--- digits are 0 or 1
-digit_or : (u v : ℕ) → u < 2 → v < 2 → eqb (bit_or u v) 1 ≡ (eqb u 1 || eqb v 1)
-digit_or zero zero p q = refl
-digit_or zero (suc zero) p q = refl
-digit_or zero (suc (suc v)) p q = absurd (omega arith)
-digit_or (suc zero) zero p q = refl
-digit_or (suc zero) (suc zero) p q = refl
-digit_or (suc zero) (suc (suc v)) p q = absurd (omega arith)
-digit_or (suc (suc u)) v p q = absurd (omega arith)
+-- a bit is 0 or 1
+or_digit : (u v : ℕ) → u < 2 → v < 2 → eqb (max u v) 1 ≡ (eqb u 1 || eqb v 1)
+or_digit u v p q = grind (arith, nat_tests)
 
 or_bit : (a b n : ℕ) → has_bit (bit_or a b) n ≡ (has_bit a n || has_bit b n)
-or_bit a b n =
-    let x = a / 2 ^ n in
-    let y = b / 2 ^ n in
-    ap (λ k. eqb (k % 2) 1) (or_shr a b n) ∙ ap (λ k. eqb k 1) (or_mod x y 1) ∙ digit_or (x % 2) (y % 2) (mod_below x 2 (omega arith)) (mod_below y 2 (omega arith))
+or_bit a b n = ap (λ k. eqb k 1) (bit_at_or a b n) ∙ or_digit (bit_at a n) (bit_at b n) (bit_at-lt a n) (bit_at-lt b n)
 
 -- 2 ^ f has the one bit f
-below_bit : (f n : ℕ) → n < f → has_bit (2 ^ f) n ≡ false
-below_bit f n lt =
-    let e : f - n - 1 + 1 + n ≡ f = omega arith in
-    let split : 2 ^ f ≡ 2 ^ (f - n - 1 + 1) * 2 ^ n = ap (λ k. 2 ^ k) (sym e) ∙ pow-add 2 (f - n - 1 + 1) n in
-    let even : 2 ^ f / 2 ^ n ≡ 2 ^ (f - n - 1) * 2 = ap (λ k. k / 2 ^ n) split ∙ shl-shr (2 ^ (f - n - 1 + 1)) n ∙ pow-add 2 (f - n - 1) 1 in
-    ap (λ k. eqb k 1) (ap (λ k. k % 2) even ∙ mul-mod_left (2 ^ (f - n - 1)) 2)
-
-own_bit : (f : ℕ) → has_bit (2 ^ f) f ≡ true
-own_bit f = let one_left : 2 ^ f / 2 ^ f ≡ 1 = ap (λ k. k / 2 ^ f) (sym (one_times (2 ^ f))) ∙ shl-shr 1 f in ap (λ k. eqb (k % 2) 1) one_left
-  where
-    one_times : (k : ℕ) → 1 * k ≡ k
-    one_times k = omega arith
-
-above_bit : (f n : ℕ) → f < n → has_bit (2 ^ f) n ≡ false
-above_bit f n lt = ap (λ k. eqb (k % 2) 1) (div-eq_of_lt (pow_below f n lt))
-
 pow_bit : (f n : ℕ) → has_bit (2 ^ f) n ≡ eqb n f
 pow_bit f n =
     ⊎_elim
-    (λ e. ap (has_bit (2 ^ f)) e ∙ own_bit f ∙ sym (eq-eqb n f e))
-    (⊎_elim
-    (λ lt. below_bit f n lt ∙ sym (ne_eqb n f (λ e. omega arith)))
-    (λ gt. above_bit f n gt ∙ sym (ne_eqb n f (λ e. omega arith))))
+    (λ e. ap (has_bit (2 ^ f)) e ∙ ap (λ k. eqb k 1) (bit_at-pow_same f) ∙ sym (eq-eqb n f e))
+    (λ other. let apart = λ (e : n ≡ f). ⊎_elim (λ less. omega arith) (λ more. omega arith) other in ap (λ k. eqb k 1) (bit_at-pow_other f n apart) ∙ sym (ne_eqb n f apart))
     (cases_order n f)
 
 no_bit : (n : ℕ) → has_bit 0 n ≡ false
-no_bit n = ap (λ k. eqb (k % 2) 1) (div-eq_of_lt (pow_pos n))
+no_bit n = ap (λ k. eqb k 1) (bit_at-zero n)
 
 function_bit : (f n : ℕ) → f < 64 → has_bit (bit_of f) n ≡ eqb n f
 function_bit f n lt = ap (λ k. has_bit k n) (cond-true (ltb f 64) (2 ^ f) 0 (lt-ltb f 64 lt)) ∙ pow_bit f n
-
-swap_or : (x y : Bool) → (x || y) ≡ (y || x)
-swap_or true true = refl
-swap_or true false = refl
-swap_or false true = refl
-swap_or false false = refl
 
 -- the bits of a tree's value are its functions
 pub members : (t : Tree) → ProperTree t → (n : ℕ) → has_bit (fold bits_meaning t) n ≡ occurs n t
 members (name w) proper n = no_bit n
 members (one f t) (f<, proper) n =
-    or_bit (fold bits_meaning t) (bit_of f) n ∙ (λ j. members t proper n j || function_bit f n (omega arith) j) ∙ swap_or (occurs n t) (eqb n f)
+    or_bit (fold bits_meaning t) (bit_of f) n ∙ (λ j. members t proper n j || function_bit f n (omega arith) j) ∙ or_comm (occurs n t) (eqb n f)
 members (two f s t) (f≥, f<, p, q) n =
     or_bit (bit_or (fold bits_meaning s) (fold bits_meaning t)) (bit_of f) n
     ∙ (λ j. (or_bit (fold bits_meaning s) (fold bits_meaning t) n ∙ (λ i. members s p n i || members t q n i)) j || function_bit f n f< j)
-    ∙ swap_or (occurs n s || occurs n t) (eqb n f)
+    ∙ or_comm (occurs n s || occurs n t) (eqb n f)
 
 -- the ones of a number are its bits, counted
 digit_ones : (b : ℕ) → b < 2 → ones b ≡ cond (eqb b 1) 1 0
@@ -120,31 +90,10 @@ set_of t proper bits fits is =
 
 -- a number is known by its bits
 same_digit : (u v : ℕ) → u < 2 → v < 2 → eqb u 1 ≡ eqb v 1 → u ≡ v
-same_digit zero zero p q e = refl
-same_digit zero (suc zero) p q e = let z : ◌≡◌ {A = ℕ} 0 1 = cc in absurd (omega arith)
-same_digit zero (suc (suc v)) p q e = absurd (omega arith)
-same_digit (suc zero) zero p q e = let z : ◌≡◌ {A = ℕ} 0 1 = cc in absurd (omega arith)
-same_digit (suc zero) (suc zero) p q e = refl
-same_digit (suc zero) (suc (suc v)) p q e = absurd (omega arith)
-same_digit (suc (suc u)) v p q e = absurd (omega arith)
-
-same_low : (a b n : ℕ) → ((k : ℕ) → has_bit a k ≡ has_bit b k) → a % 2 ^ n ≡ b % 2 ^ n
-same_low a b zero same = omega (arith, mod_below a 1 (omega arith), mod_below b 1 (omega arith))
-same_low a b (suc n) same =
-    let digit = same_digit (a / 2 ^ n % 2) (b / 2 ^ n % 2) (mod_below (a / 2 ^ n) 2 (omega arith)) (mod_below (b / 2 ^ n) 2 (omega arith)) (same n) in
-    low_digits a n ∙ (λ j. digit j * 2 ^ n + same_low a b n same j) ∙ sym (low_digits b n)
-
-below_pow : (n : ℕ) → n < 2 ^ n
-below_pow zero = omega arith
-below_pow (suc n) = omega (arith, below_pow n, pow-suc 2 n)
+same_digit u v p q e = grind (arith, nat_tests)
 
 same_bits : (a b : ℕ) → ((k : ℕ) → has_bit a k ≡ has_bit b k) → a ≡ b
-same_bits a b same =
-    let top = 2 ^ (a + b) in
-    let high : a + b < top = below_pow (a + b) in
-    let a-low : a < top = omega arith in
-    let b-low : b < top = omega arith in
-    sym (mod-eq_of_lt a-low) ∙ same_low a b (a + b) same ∙ mod-eq_of_lt b-low
+same_bits a b same = same_from_bits a b (λ k. same_digit (bit_at a k) (bit_at b k) (bit_at-lt a k) (bit_at-lt b k) (same k))
 
 pub set_one : (t : Tree) (x y : FunctionSet) → SetOf t x → SetOf t y → x ≡ y
 set_one t x y p q =
@@ -155,12 +104,12 @@ set_one t x y p q =
 -- what is answered of the bits is answered of the set
 module _ (n : ℕ) (t : Tree) (proper : ProperTree t) where
   pub set_refused : (f : Fault) → ValueOf bits_meaning n t (Err f) → SetAnswered n t (Err f)
-  set_refused f = ⊎_elim (λ (few, is). inl (few, let same : f ≡ fault TooFewValues 0 = cc in ap Err same)) (λ (enough, is). let z : ◌≡◌ {A = ℕ} 0 1 = cc in absurd (omega arith))
+  set_refused f = ⊎_elim (λ (few, is). inl (few, let same : f ≡ fault TooFewValues 0 = cc in ap Err same)) (λ (enough, is). cc)
 
   pub set_answered : (bits : ℕ) → bits < 2 ^ 64 → ValueOf bits_meaning n t (Ok bits) → SetAnswered n t (Ok (record { bits = bits; count = ones bits }))
   set_answered bits fits =
       ⊎_elim
-      (λ (few, is). let z : ◌≡◌ {A = ℕ} 0 1 = cc in absurd (omega arith))
+      (λ (few, is). cc)
       (λ (enough, is). let same : bits ≡ fold bits_meaning t = cc in inr (enough, (record { bits = bits; count = ones bits }, refl, set_of t proper bits fits same)))
 
 pub answered_one : (n : ℕ) (t : Tree) (r s : Result FunctionSet Fault) → SetAnswered n t r → SetAnswered n t s → r ≡ s
@@ -176,4 +125,4 @@ module _ (rack : List Node) (used root n : ℕ) where
   pub set_only : (bits : ℕ) → bits < 2 ^ 64 → AtTree rack used root (ValueOf bits_meaning n) (Ok bits) → Only (AtTree rack used root (SetAnswered n)) (Ok (record { bits = bits; count = ones bits }))
   set_only bits fits h =
       at_tree_only rack used root (SetAnswered n) (answered_one n) (Ok (record { bits = bits; count = ones bits }))
-      (at_changed rack used root (ValueOf bits_meaning n) (SetAnswered n) (Ok bits) (Ok (record { bits = bits; count = ones bits })) (λ k is. let z : ◌≡◌ {A = ℕ} 0 1 = cc in absurd (omega arith)) (λ tree l. set_answered n tree (proper_tree rack root tree l) bits fits) h)
+      (at_changed rack used root (ValueOf bits_meaning n) (SetAnswered n) (Ok bits) (Ok (record { bits = bits; count = ones bits })) (λ k is. cc) (λ tree l. set_answered n tree (proper_tree rack root tree l) bits fits) h)

@@ -23,7 +23,7 @@ takes_two f false e h = ltb-false f 32 e
 module _ (t : Table) (lawful : LawfulTable t) where
   -- the function has an operator, with so many operands
   operator : (f : ℕ) (x : Fixity) (o : Option Op) → t f ≡ o → option_map (λ p. fixity_of p.form) o ≡ Some x → (p : Op) × LawfulOp f p × (fixity_of p.form ≡ x)
-  operator f x None e h = let z : ◌≡◌ {A = ℕ} 0 1 = cc in absurd (omega arith)
+  operator f x None e h = cc
   operator f x (Some p) e h = (p, lawful.each f p e, cc)
 
   one_operand : (f : ℕ) (x : Fixity) → fixity_in t f ≡ Some x → operands_in x ≡ 1 → f < 32

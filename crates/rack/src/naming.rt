@@ -6,6 +6,7 @@ use crate::name::{MAX_NAME_BYTES, Name};
 
 impl Name {
     // The name with the bytes of the word, or none if the word is longer than a name may be.
+    // An Option and no TryFrom: there is but one refusal, with nothing to say.
     pub fn new(word: &[u8]) -> Option<Name>
         ensures { MatchOption result (16 < length word.now) (λ n. (length word.now ≤ 16) × (n ≡ name_of word.now)) }
     {
@@ -13,7 +14,8 @@ impl Name {
             return None;
         }
         let mut bytes = [0; MAX_NAME_BYTES];
-        bytes[0..word.len()].copy_from_slice(word);
+        // Not `get_mut(..)?`: what the array holds after a write to such a part is not known.
+        bytes[..word.len()].copy_from_slice(word);
         Some(Name { bytes })
     }
 }

@@ -4,52 +4,38 @@ ghost use Rattle.rack.specs.Racks.{OneTreeLies, LiesConsecutively, LiesWherePut,
 ghost use Rattle.rack.specs.Sizes.{NoMoreNodesThanTokens};
 
 // A word is spelt by the name that it makes, and a proper name is made by the word that it spells.
-pub fn names_are_words() -> u8
+pub fn names_are_words()
     ensures words { WordsAreSpelt }
     ensures names { NamesArePadded }
-{
-    0
-}
+{}
 
 // Where all nodes up to a root are sound, exactly one tree lies there.
-pub fn one_tree_lies() -> u8
+pub fn one_tree_lies()
     ensures { OneTreeLies }
-{
-    0
-}
+{}
 
 // The nodes of a tree that lies at a root are consecutive, in postorder, and end there.
-pub fn lies_consecutively() -> u8
+pub fn lies_consecutively()
     ensures { LiesConsecutively }
-{
-    0
-}
+{}
 
 // A tree whose nodes were put down lies at the last of them, and they are sound if those before are.
-pub fn lies_where_put() -> u8
+pub fn lies_where_put()
     ensures lies { LiesWherePut }
     ensures sound { SoundWherePut }
-{
-    0
-}
+{}
 
 // Nodes from a place on do not matter to those below it.
-pub fn later_nodes_do_not_matter() -> u8
+pub fn later_nodes_do_not_matter()
     ensures { LaterNodesDoNotMatter }
-{
-    0
-}
+{}
 
 // What a text reads as, a rack can hold.
-pub fn read_trees_are_proper() -> u8
+pub fn read_trees_are_proper()
     ensures { ReadTreesAreProper }
-{
-    0
-}
+{}
 
 // A tree has no more nodes than its text has tokens: 1,024 free nodes are enough for any expression within the limits.
-pub fn no_more_nodes_than_tokens() -> u8
+pub fn no_more_nodes_than_tokens()
     ensures { NoMoreNodesThanTokens }
-{
-    0
-}
+{}
