@@ -35,13 +35,10 @@ fn malformed_line(line: usize) -> InputFault
 fn declare_line(list: &mut OpenList, line: NumberedLine<'_>) -> Result<(), InputFault>
     ensures { MatchResult result (λ _. Declares (open_table list.old) line.entry.bytes.now (Ok tt) × Added (open_table list.old) line.entry.bytes.now (open_table list.new)) (λ e. (e.line ≡ line.entry.number) × Declares (open_table list.old) line.entry.bytes.now (Err e.fault)) }
 {
-    match list.declare(line.bytes) {
-        Ok(()) => Ok(()),
-        Err(fault) => Err(InputFault {
-            line: line.number,
-            fault,
-        }),
-    }
+    list.declare(line.bytes).map_err(|fault| InputFault {
+        line: line.number,
+        fault,
+    })
 }
 
 // Reads declarations up to `end`, and seals them.
@@ -49,6 +46,7 @@ fn read_declarations(lines: &mut NumberedLines<'_>) -> Result<SealedList, InputF
     ensures { Declarations empty_table lines.old.count (numbered_ahead lines.old) (list_read result lines.new) }
 {
     let mut list = OpenList::new();
+    // `while let`: after a `for` over `lines.by_ref()` the proof does not know what is left of `lines`.
     while let Some(line) = lines.next() {
         if is_word(line.bytes, b"end") {
             return Ok(list.seal());

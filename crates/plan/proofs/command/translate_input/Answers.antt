@@ -36,5 +36,5 @@ returns-in-Err c =
     let e = c.in-Err.refused in
     record {
       answer = after_fault (Output input) _ _ (fault_line e.line e.fault) c.push_fault_line.result (whole_refused input _ _ start.ahead start.count e c.in-Err.ensures) c.push_fault_line.ensures.bytes;
-      succeeds = λ enough. c.push_fault_line.ensures.succeeds (less_room _ 65 _ _ (room_some (counted_lines input)) enough);
+      succeeds = λ enough. c.push_fault_line.ensures.room.succeeds (less_room _ 65 _ _ (room_some (counted_lines input)) enough);
     }
