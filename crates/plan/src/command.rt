@@ -8,7 +8,8 @@ ghost use Rattle.plan.specs.Command.{Output};
 ghost use Rattle.plan.specs.InputLines.{counted_lines};
 ghost use Rattle.plan.specs.NumberedAhead.{numbered_ahead};
 ghost use Rattle.plan.specs.Plans.{begins_tail, LineFault, ComesOut, ComesOutAs, up_to_tail, PlanOutput, room_for};
-ghost use Rattle.plan.specs.Sections.{Section, Notation};
+ghost use Rattle.plan.specs.Sections.{TwoNotations};
+ghost use Rattle.plan.specs.SectionViews.{second_read};
 ghost use Rattle.plan.specs.PlanLines.{IsPlanLine};
 ghost use Rattle.plan.specs.Reports.{line_end};
 
@@ -96,7 +97,7 @@ struct Notations {
 
 // Reads the two notations, or tells the first line that may not stand there, and why.
 fn read_notations(lines: &mut NumberedLines<'_>) -> Result<Notations, InputFault>
-    ensures { MatchResult result (λ _. (s : Section) × Notation lines.old.count (numbered_ahead lines.old) (Ok s) × ((t : Section) × Notation s.count s.rest (Ok t) × (t.rest ≡ numbered_ahead lines.new) × (t.count ≡ lines.new.count))) (λ e. Notation lines.old.count (numbered_ahead lines.old) (Err e) ⊎ ((s : Section) × Notation lines.old.count (numbered_ahead lines.old) (Ok s) × Notation s.count s.rest (Err e))) }
+    ensures { TwoNotations lines.old.count (numbered_ahead lines.old) (second_read result lines.new) }
 {
     let from = read_notation(lines)?;
     let into = read_notation(lines)?;
