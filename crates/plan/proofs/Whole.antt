@@ -1,12 +1,11 @@
 -- The output of an input is fixed, and there is room for it.
-use Rattle.std.proofs.Common.{◌≡◌, ℕ, ◌+◌, ◌≤◌, ◌⊎◌, List, [], ◌∷◌, Ok, Err, sym, refl, ap, ◌∙◌, subst, ⊎_elim, arith}
+use Rattle.std.proofs.Common.{◌≡◌, ℕ, ◌+◌, ◌≤◌, List, [], ◌∷◌, Ok, Err, sym, ap, ◌∙◌, subst, ⊎_elim, arith}
 use Rattle.tokens.specs.InOrder.{Only}
 use Rattle.notation.specs.Tables.{Table}
 use Rattle.plan.specs.declared.input_fault.InputFault.{InputFault}
 use Rattle.plan.specs.Command.{Onward, AfterNotation, AfterBoth, Output}
 use Rattle.plan.specs.InputLines.{counted_lines}
-use Rattle.plan.specs.Plans.{up_to_tail, PlanOutput, room_for}
-use Rattle.plan.specs.Reports.{fault_line}
+use Rattle.plan.specs.Plans.{up_to_tail, room_for}
 use Rattle.plan.specs.Sections.{Section, Sectioned, Declarations, Notation, TwoNotations}
 use Rattle.plan.proofs.Outputs.{plan_output_one, room_up_to}
 use Rattle.plan.proofs.Sectioning.{notation_one}

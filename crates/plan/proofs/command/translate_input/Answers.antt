@@ -3,8 +3,6 @@ use Rattle.std.specs.declared.alloc.AllocError.{AllocError}
 use Rattle.std.proofs.lemmas.Result.{IfOk-weaker}
 use Rattle.plan.specs.Command.{Output}
 use Rattle.plan.specs.InputLines.{counted_lines}
-use Rattle.plan.specs.NumberedAhead.{numbered_ahead}
-use Rattle.plan.specs.Plans.{up_to_tail, PlanOutput}
 use Rattle.plan.specs.Reports.{fault_line}
 use Rattle.plan.proofs.Outputs.{room_some}
 use Rattle.plan.proofs.Whole.{whole, plan_room, less_room}

@@ -1,4 +1,4 @@
-use Rattle.std.proofs.Common.{◌≡◌, ℕ, ◌+◌, ◌≤◌, cond, List, ◌++◌, length, is_ok, IfOk, Ok, Err, Some, None, vec_items, vec_len, vec_capacity, Result, sym, ap, ◌∙◌, subst, arith, rules, tests}
+use Rattle.std.proofs.Common.{◌≡◌, ℕ, ◌+◌, ◌≤◌, cond, List, [], ◌++◌, length, is_ok, IfOk, Ok, Err, Some, None, vec_items, vec_len, vec_capacity, Result, sym, ap, ◌∙◌, subst, arith, rules, tests}
 use Rattle.std.specs.declared.alloc.AllocError.{AllocError}
 use Rattle.std.specs.Iterator.Adapters.{take_while_source, take_while_done}
 use Rattle.std.proofs.iter.Serving.{serving}
@@ -10,7 +10,7 @@ use Rattle.plan.specs.Plans.{ComesOut, up_to_tail, PlanOutput, room_for}
 use Rattle.plan.proofs.Outputs.{sofar_none, sofar_more, sofar_end, line_room, tail_room, one_line, few_pairs}
 use Rattle.plan.proofs.PlanAhead.{plan_ahead, plan_count, NextLine, next_line}
 use Rattle.plan.proofs.command.translate_plan.Goals as goal
-use Rattle.plan.proofs.command.translate_plan.Goals.{In-Some, In_ok-outcome, at-In_ok-outcome}
+use Rattle.plan.proofs.command.translate_plan.Goals.{In-Some, In-None, In_ok-outcome, at-In_ok-outcome}
 
 pub loop-line-init : goal.loop-line-init
 loop-line-init c =
@@ -28,7 +28,7 @@ loop-line-init c =
       omega arith,
     )
 
--- what the iterator gives is the next line of the plan
+-- what the iterator gives is the next line of the plan, or none where the plan ends
 stepped : (c : In-Some) → NextLine c.loop-line.line-iterator (Some c.in-Some.line) c.next.new.self
 stepped c = next_line _ (λ f x b q k. search (rules, tests)) c.loop-line.line-iterator c.next.new.self (Some c.in-Some.line) c.loop-line.invariant.2 c.in-Some.ensures.steps
 
@@ -71,6 +71,9 @@ returns-in_err-outcome c =
     λ room. subst (λ n. n + (length c.in-Some.line.bytes.now + 65) ≤ vec_capacity c.loop-line.out) (sym c.loop-line.out.ok.0) (line_room _ _ _ _ _ _ _ _ _ inv.3 _ _ step.0 (vec_capacity c.loop-line.out) (subst (λ n. n + room_for all ≤ vec_capacity c.args.out.now) c.args.out.now.ok.0 room) inv.4) in
     rw p.1 (record { answer = (_, told.answer ∙ inv.3.bytes, tt); succeeds = λ room. absurd (false≢true (told.room.succeeds (fits room))) })
 
+ended : (c : In-None) → plan_ahead c.loop-line.line-iterator ≡ []
+ended c = next_line _ (λ f x b q k. search (rules, tests)) c.loop-line.line-iterator c.next.new.self None c.loop-line.invariant.2 c.in-None.ensures.steps
+
 -- the tail is put, or memory was wanting and nothing is
 after_tail : (P : List ℕ → Type 0) (start out final tail : List ℕ) (r : Result (Unit {0}) AllocError) → ((added : List ℕ) × (out ≡ start ++ added)) → ((added : List ℕ) × (out ++ tail ≡ start ++ added) × P added) → final ≡ cond (is_ok r) (out ++ tail) out
     → (added : List ℕ) × (final ≡ start ++ added) × IfOk r (λ _. P added)
@@ -80,7 +83,7 @@ after_tail P start out final tail (Err x) some all e = (some.0, e ∙ some.1, tt
 pub returns : goal.returns
 returns c =
     let inv = c.loop-line.invariant in
-    let end = next_line _ (λ f x b q k. search (rules, tests)) c.loop-line.line-iterator c.next.new.self None inv.2 c.in-None.ensures.steps in
+    let end = ended (goal.at.returns c).In-None in
     let all = up_to_tail (numbered_ahead c.args.lines) in
     let fits : vec_len c.args.out.now + room_for all ≤ vec_capacity c.args.out.now → vec_len c.loop-line.out + 65 ≤ vec_capacity c.loop-line.out =
     λ room. subst (λ n. n + 65 ≤ vec_capacity c.loop-line.out) (sym c.loop-line.out.ok.0) (tail_room _ _ _ _ _ _ _ _ _ inv.3 end (vec_capacity c.loop-line.out) (subst (λ n. n + room_for all ≤ vec_capacity c.args.out.now) c.args.out.now.ok.0 room) inv.4) in
