@@ -3,7 +3,6 @@ pub mod Outputs
 pub mod Parts
 pub mod Counts
 pub mod PlanAhead
-pub mod Reporting
 pub mod Sectioning
 pub mod Splits
 pub mod Whole

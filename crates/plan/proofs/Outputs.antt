@@ -141,13 +141,7 @@ module _ (all : List (List ℕ)) (before : ℕ) (start : List ℕ) (cap : ℕ) w
             room = λ k. omega (arith, h.room k, ap room_for next, ap length out-is, length-append out bytes);
           }
 
-      pub line_room : (cap' : ℕ) → length start + room_for all ≤ cap → cap ≤ cap' → length out + (length l + 65) ≤ cap'
-      line_room cap' room more = omega (arith, h.room room, ap room_for next)
-
     module _ (end : ahead ≡ []) where
-      pub tail_room : (cap' : ℕ) → length start + room_for all ≤ cap → cap ≤ cap' → length out + 65 ≤ cap'
-      tail_room cap' room more = omega (arith, h.room room, ap room_for end)
-
       pub sofar_end : (added : List ℕ) × (out ++ tail_line lines pairs ≡ start ++ added) × PlanOutput before all added
       sofar_end =
           let whole = h.split ∙ ap (λ (ls : List (List ℕ)). h.done ++ ls) end ∙ append-nil h.done in

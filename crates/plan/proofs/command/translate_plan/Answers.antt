@@ -1,13 +1,11 @@
-use Rattle.std.proofs.Common.{◌≡◌, ℕ, ◌+◌, ◌≤◌, cond, List, [], ◌++◌, length, is_ok, IfOk, Ok, Err, Some, None, vec_items, vec_len, vec_capacity, Result, sym, ap, ◌∙◌, subst, arith, rules, tests}
+use Rattle.std.proofs.Common.{◌≡◌, ℕ, ◌+◌, ◌≤◌, cond, List, [], ◌++◌, length, is_ok, IfOk, Ok, Err, Some, None, vec_items, vec_capacity, Result, ap, ◌∙◌, subst, arith, rules, tests}
 use Rattle.std.specs.declared.alloc.AllocError.{AllocError}
 use Rattle.std.specs.Iterator.Adapters.{take_while_source, take_while_done}
 use Rattle.std.proofs.iter.Serving.{serving}
 use Rattle.std.proofs.lemmas.List.{length-append}
-use Rattle.std.proofs.lemmas.Result.{err_from_is_err_and}
-use Rattle.std.proofs.lemmas.Bool.{false≢true}
 use Rattle.plan.specs.NumberedAhead.{numbered_ahead}
-use Rattle.plan.specs.Plans.{ComesOut, up_to_tail, PlanOutput, room_for}
-use Rattle.plan.proofs.Outputs.{sofar_none, sofar_more, sofar_end, line_room, tail_room, one_line, few_pairs}
+use Rattle.plan.specs.Plans.{ComesOut, up_to_tail, PlanOutput}
+use Rattle.plan.proofs.Outputs.{sofar_none, sofar_more, sofar_end, few_pairs}
 use Rattle.plan.proofs.PlanAhead.{plan_ahead, plan_count, NextLine, next_line}
 use Rattle.plan.proofs.command.translate_plan.Goals as goal
 use Rattle.plan.proofs.command.translate_plan.Goals.{In-Some, In-None, In_ok-outcome, at-In_ok-outcome}
@@ -37,13 +35,10 @@ came : (c : In_ok-outcome) → ComesOut (plan_count c.loop-line.line-iterator + 
 came c =
     subst (λ n. ComesOut n c.in-Some.line.bytes.now c.in_ok-outcome.outcome c.in_ok-outcome.ensures.answer.0) (stepped (at-In_ok-outcome c).In-Some).2 c.in_ok-outcome.ensures.answer.2.is
 
-pub count-requires : goal.count-requires
-count-requires c =
-    let sofar = c.loop-line.invariant.3 in
-    let step = stepped (goal.at.count-requires c).In-Some in
-    let o = c.in_ok-outcome.outcome in
-    let pairs = few_pairs _ _ o _ (came (goal.at.count-requires c).In_ok-outcome) in
-    record { lines = omega (arith, sofar.few_lines, step.1, one_line o); pairs = omega (arith, sofar.few_pairs, step.1, pairs) }
+pub count-requires-clause-pairs : goal.count-requires-clause-pairs
+count-requires-clause-pairs c =
+    let step = stepped (goal.at.count-requires-clause-pairs c).In-Some in
+    omega (arith, c.loop-line.invariant.3.few_pairs, step.1, few_pairs _ _ c.in_ok-outcome.outcome _ (came (goal.at.count-requires-clause-pairs c).In_ok-outcome))
 
 pub loop-line-preserved : goal.loop-line-preserved
 loop-line-preserved c =
@@ -60,17 +55,6 @@ loop-line-preserved c =
       omega (arith, c.loop-line.invariant.4, told.room.capacity),
     )
 
-pub returns-in_err-outcome : goal.returns-in_err-outcome
-returns-in_err-outcome c =
-    let p = err_from_is_err_and c.from_residual.result c.from_residual.ensures.1 in
-    let told = c.in_err-outcome.ensures in
-    let inv = c.loop-line.invariant in
-    let step = stepped (goal.at.returns-in_err-outcome c).In-Some in
-    let all = up_to_tail (numbered_ahead c.args.lines) in
-    let fits : vec_len c.args.out.now + room_for all ≤ vec_capacity c.args.out.now → vec_len c.loop-line.out + (length c.in-Some.line.bytes.now + 65) ≤ vec_capacity c.loop-line.out =
-    λ room. subst (λ n. n + (length c.in-Some.line.bytes.now + 65) ≤ vec_capacity c.loop-line.out) (sym c.loop-line.out.ok.0) (line_room _ _ _ _ _ _ _ _ _ inv.3 _ _ step.0 (vec_capacity c.loop-line.out) (subst (λ n. n + room_for all ≤ vec_capacity c.args.out.now) c.args.out.now.ok.0 room) inv.4) in
-    rw p.1 (record { answer = (_, told.answer ∙ inv.3.bytes, tt); succeeds = λ room. absurd (false≢true (told.room.succeeds (fits room))) })
-
 ended : (c : In-None) → plan_ahead c.loop-line.line-iterator ≡ []
 ended c = next_line _ (λ f x b q k. search (rules, tests)) c.loop-line.line-iterator c.next.new.self None c.loop-line.invariant.2 c.in-None.ensures.steps
 
@@ -80,14 +64,8 @@ after_tail : (P : List ℕ → Type 0) (start out final tail : List ℕ) (r : Re
 after_tail P start out final tail (Ok x) some all e = (all.0, e ∙ all.1, all.2)
 after_tail P start out final tail (Err x) some all e = (some.0, e ∙ some.1, tt)
 
-pub returns : goal.returns
-returns c =
-    let inv = c.loop-line.invariant in
-    let end = ended (goal.at.returns c).In-None in
-    let all = up_to_tail (numbered_ahead c.args.lines) in
-    let fits : vec_len c.args.out.now + room_for all ≤ vec_capacity c.args.out.now → vec_len c.loop-line.out + 65 ≤ vec_capacity c.loop-line.out =
-    λ room. subst (λ n. n + 65 ≤ vec_capacity c.loop-line.out) (sym c.loop-line.out.ok.0) (tail_room _ _ _ _ _ _ _ _ _ inv.3 end (vec_capacity c.loop-line.out) (subst (λ n. n + room_for all ≤ vec_capacity c.args.out.now) c.args.out.now.ok.0 room) inv.4) in
-    record {
-      answer = after_tail (PlanOutput c.args.lines.count all) _ _ _ _ _ (_, inv.3.bytes) (sofar_end _ _ _ _ _ _ _ _ _ inv.3 end) c.push_tail.ensures.bytes;
-      succeeds = λ room. c.push_tail.ensures.room.succeeds (fits room);
-    }
+pub returns-clause-answer : goal.returns-clause-answer
+returns-clause-answer c =
+    let sofar = c.loop-line.invariant.3 in
+    let end = ended (goal.at.returns-clause-answer c).In-None in
+    after_tail (PlanOutput c.args.lines.count (up_to_tail (numbered_ahead c.args.lines))) _ _ _ _ _ (_, sofar.bytes) (sofar_end _ _ _ _ _ _ _ _ _ sofar end) c.push_tail.ensures.bytes
