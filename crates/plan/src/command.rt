@@ -1,5 +1,5 @@
 // The command: from a line to what it becomes, and from the whole input to the whole output.
-ghost use Rattle.std.specs.Prelude.{◌≡◌, ℕ, ◌+◌, ◌<◌, ◌≤◌, true, ◌⊎◌, List, ◌∷◌, ◌++◌, length, is_ok, IfOk, if◌then◌else◌, Ok, Err, vec_len, vec_capacity, MatchResult, OnOk};
+ghost use Rattle.std.specs.Prelude.{◌≡◌, ℕ, ◌+◌, ◌≤◌, true, List, ◌∷◌, ◌++◌, length, is_ok, IfOk, vec_len, vec_capacity, MatchResult, OnOk};
 ghost use Rattle.tokens.specs.InOrder.{Only};
 ghost use Rattle.tokens.specs.Limits.{WithinLimits};
 ghost use Rattle.tokens.specs.Spacing.{respaced, pairs_of};

@@ -1,5 +1,5 @@
 // The notations at the top of the input.
-ghost use Rattle.std.specs.Prelude.{◌≡◌, Ok, Err, MatchBool, MatchResult, ◌≢◌};
+ghost use Rattle.std.specs.Prelude.{◌≡◌, MatchResult};
 ghost use Rattle.tokens.specs.InOrder.{Only};
 ghost use Rattle.notation.specs.Declarations.{Declares, Added};
 ghost use Rattle.notation.specs.Views.{open_table};
