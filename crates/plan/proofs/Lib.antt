@@ -1,7 +1,8 @@
+pub mod Fronts
 pub mod Outputs
 pub mod Parts
 pub mod Counts
-pub mod Reporting
+pub mod PlanAhead
 pub mod Sectioning
 pub mod Splits
 pub mod Whole

@@ -1,5 +1,9 @@
 -- Notations read line by line: one step at a time, and with one answer.
-use Rattle.std.proofs.Common.{◌≡◌, ℕ, ◌+◌, ◌⊎◌, List, [], ◌∷◌, Ok, Err, codes, sym, refl, ap, ◌∙◌, subst, inl, inr, ⊎_elim, arith}
+use Rattle.std.proofs.Common.{◌≡◌, ℕ, ◌+◌, Bool, true, false, eqb, Decides, ◌⊎◌, List, [], ◌∷◌, Ok, Err, codes, sym, refl, ap, ◌∙◌, subst, inl, inr, ⊎_elim, arith}
+use Rattle.std.specs.Cmp.Lexicographic.{pointwise}
+use Rattle.std.proofs.lemmas.Bool.{false≢true}
+use Rattle.std.proofs.lemmas.Bool.Decides.{Decides-eqb}
+use Rattle.std.proofs.lemmas.Slice.Eq.{slice_eq-Decides}
 use Rattle.tokens.specs.declared.fault.Fault.{Fault}
 use Rattle.tokens.specs.InOrder.{If, Only}
 use Rattle.tokens.proofs.Firsts.{if_one}
@@ -11,20 +15,20 @@ use Rattle.notation.proofs.Lines.{word_one}
 use Rattle.notation.proofs.Rules.{declares_one}
 use Rattle.plan.specs.Sections.{section, Sectioned, fault_at_line, malformed, empty_table, Declarations, Notation}
 
--- one line of declarations
-module _ (t : Table) (n : ℕ) (ls : List (List ℕ)) (l : List ℕ) (rest : List (List ℕ)) (next : ls ≡ l ∷ rest) where
-  pub list_ends : l ≡ codes "end" → Declarations t n ls (Ok (section t rest (n + 1)))
-  list_ends is = subst (λ (k : List (List ℕ)). Declarations t n k (Ok (section t rest (n + 1)))) (sym next) (inl (is, refl))
+-- what `==` tells of a line and a word
+module _ (line word : List ℕ) (r : Bool) (told : r ≡ pointwise eqb line word) where
+  tells : Decides r (line ≡ word)
+  tells = slice_eq-Decides Decides-eqb line word r told
 
-  module _ (other : l ≡ codes "end" → ⊥) where
-    pub list_refused : (f : Fault) → Declares t l (Err f) → Declarations t n ls (Err (fault_at_line (n + 1) f))
-    list_refused f h = subst (λ (k : List (List ℕ)). Declarations t n k (Err (fault_at_line (n + 1) f))) (sym next) (inr (other, inl (f, h, refl)))
+  pub same_word : r ≡ true → line ≡ word
+  same_word e = tells.0 e
 
-    pub list_goes_on : (u : Table) → Declares t l (Ok tt) → Added t l u → (r : Sectioned) → Declarations u (n + 1) rest r → Declarations t n ls r
-    list_goes_on u h added r more = subst (λ (k : List (List ℕ)). Declarations t n k r) (sym next) (inr (other, inr (h, (u, added, more))))
+  pub other_word : r ≡ false → line ≡ word → ⊥
+  other_word e is = false≢true (sym e ∙ tells.1 is)
 
-pub list_unended : (t : Table) (n : ℕ) (ls : List (List ℕ)) → ls ≡ [] → Declarations t n ls (Err (malformed (n + 1)))
-list_unended t n ls end = subst (λ (k : List (List ℕ)). Declarations t n k (Err (malformed (n + 1)))) (sym end) refl
+-- one line of declarations that is refused
+pub list_refused : (t : Table) (n : ℕ) (ls : List (List ℕ)) (l : List ℕ) (rest : List (List ℕ)) → ls ≡ l ∷ rest → (l ≡ codes "end" → ⊥) → (f : Fault) → Declares t l (Err f) → Declarations t n ls (Err (fault_at_line (n + 1) f))
+list_refused t n ls l rest next other f h = subst (λ (k : List (List ℕ)). Declarations t n k (Err (fault_at_line (n + 1) f))) (sym next) (inr (other, inl (f, h, refl)))
 
 -- an accepted line leaves one table
 added_one : (t u v : Table) (l : List ℕ) → Added t l u → Added t l v → u ≡ v
@@ -58,23 +62,9 @@ declarations_one (l ∷ ls) t n r s x y =
     (λ (_, (v, also, others)). declarations_one ls u (n + 1) r s more (subst (λ (w : Table). Declarations w (n + 1) ls s) (added_one t v u l also added) others))))
     x y
 
--- one notation
-module _ (n : ℕ) (ls : List (List ℕ)) (l : List ℕ) (rest : List (List ℕ)) (next : ls ≡ l ∷ rest) where
-  at_first : (r : Sectioned) → Notation n (l ∷ rest) r → Notation n ls r
-  at_first r h = subst (λ (k : List (List ℕ)). Notation n k r) (sym next) h
-
-  pub ladder_read : l ≡ codes "ladder" → Notation n ls (Ok (section ladder_table rest (n + 1)))
-  ladder_read is = at_first (Ok (section ladder_table rest (n + 1))) (inl (is, refl))
-
-  module _ (no-ladder : l ≡ codes "ladder" → ⊥) where
-    pub declared_read : l ≡ codes "declared" → (r : Sectioned) → Declarations empty_table (n + 1) rest r → Notation n ls r
-    declared_read is r h = at_first r (inr (no-ladder, inl (is, h)))
-
-    pub neither_read : (l ≡ codes "declared" → ⊥) → Notation n ls (Err (malformed (n + 1)))
-    neither_read no-list = at_first (Err (malformed (n + 1))) (inr (no-ladder, inr (no-list, refl)))
-
-pub none_read : (n : ℕ) (ls : List (List ℕ)) → ls ≡ [] → Notation n ls (Err (malformed (n + 1)))
-none_read n ls end = subst (λ (k : List (List ℕ)). Notation n k (Err (malformed (n + 1)))) (sym end) refl
+-- a notation of declarations
+pub declared_read : (n : ℕ) (ls : List (List ℕ)) (l : List ℕ) (rest : List (List ℕ)) → ls ≡ l ∷ rest → (l ≡ codes "ladder" → ⊥) → l ≡ codes "declared" → (r : Sectioned) → Declarations empty_table (n + 1) rest r → Notation n ls r
+declared_read n ls l rest next no-ladder is r h = subst (λ (k : List (List ℕ)). Notation n k r) (sym next) (inr (no-ladder, inl (is, h)))
 
 pub notation_one : (ls : List (List ℕ)) (n : ℕ) (r s : Sectioned) → Notation n ls r → Notation n ls s → r ≡ s
 notation_one [] n r s p q = p ∙ sym q

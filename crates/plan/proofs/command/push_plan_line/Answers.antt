@@ -1,4 +1,4 @@
-use Rattle.std.proofs.Common.{◌≡◌, ℕ, ◌+◌, ◌≤◌, List, [], ◌∷◌, ◌++◌, length, vec_items, vec_len, vec_capacity, refl, ap, ◌∙◌, append_assoc, arith}
+use Rattle.std.proofs.Common.{◌≡◌, ℕ, ◌+◌, ◌≤◌, List, [], ◌∷◌, ◌++◌, length, vec_items, vec_len, vec_capacity, refl, ap, ◌∙◌, arith}
 use Rattle.std.proofs.ResultArms.{chosen}
 use Rattle.std.proofs.lemmas.List.{length-append, length_push}
 use Rattle.tokens.specs.Spacing.{respaced}
@@ -32,16 +32,10 @@ push_reserved-requires-2 c =
     let p = put (goal.at.push_reserved-requires-2 c).In_ok-pairs in
     omega (arith, p.len, p.capacity, c.reserve.ensures.len, c.in_ok-reserve.ensures.ok, respaced_fits c.args.line.expression.now)
 
-pub returns : goal.returns
-returns c =
-    let p = put (goal.at.returns c).In_ok-pairs in
-    let start = vec_items c.args.out.now in
-    let digits = c.args.line.digits.now in
-    let text = respaced c.args.line.expression.now in
-    let whole : (((start ++ digits) ++ 9 ∷ []) ++ text) ++ 10 ∷ [] ≡ start ++ (digits ++ (9 ∷ (text ++ 10 ∷ []))) = simp append_assoc in
+pub returns-clause-room : goal.returns-clause-room
+returns-clause-room c =
+    let p = put (goal.at.returns-clause-room c).In_ok-pairs in
     record {
-      bytes = c.push_reserved-2.ensures.items ∙ ap (λ (l : List ℕ). l ++ 10 ∷ []) p.bytes ∙ whole;
-      pairs = c.in_ok-pairs.ensures.pairs;
       len = omega (arith, p.len, c.push_reserved-2.ensures.len, respaced_fits c.args.line.expression.now);
       capacity = omega (arith, p.capacity, c.reserve.ensures.capacity, c.push_reserved-2.ensures.capacity);
       succeeds = λ _. refl;
