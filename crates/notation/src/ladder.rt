@@ -1,12 +1,11 @@
 // The ladder: C's operators without the conditional.
 ghost use Rattle.std.specs.Prelude.{◌≡◌};
 ghost use Rattle.std.proofs.Math.Path.{refl};
-ghost use Rattle.notation.specs.declared.form.Position.TheVariants.{Before, After};
 ghost use Rattle.notation.specs.Operators.{told};
 ghost use Rattle.notation.specs.Rows.{ladder_rows, ladder_table, table_of, listed_in};
 ghost use Rattle.notation.specs.RowsLemmas.{rows_lawful};
 
-use crate::form::Form;
+use crate::form::{Form, Position};
 use crate::notation::Notation;
 use crate::operator::Operator;
 
@@ -54,46 +53,37 @@ fn ladder_operator(function: u8) -> Option<Operator<'static>>
     })
 }
 
-// The function of the ladder with the spelling before its operand, if there is one.
-fn ladder_before(spelling: &[u8]) -> Option<u8>
-    ensures { result ≡ listed_in ladder_rows Before spelling.now }
+// The function of the ladder that is listed under the spelling in the position, if there is one.
+fn ladder_listed(position: Position, spelling: &[u8]) -> Option<u8>
+    ensures { result ≡ listed_in ladder_rows position spelling.now }
 {
-    match spelling {
-        b"!" => Some(0),
-        b"~" => Some(1),
-        b"-" => Some(2),
-        b"+" => Some(3),
-        _ => None,
-    }
-}
-
-// The function of the ladder with the spelling after an operand, if there is one.
-fn ladder_after(spelling: &[u8]) -> Option<u8>
-    ensures { result ≡ listed_in ladder_rows After spelling.now }
-{
-    match spelling {
-        b"++" => Some(4),
-        b"--" => Some(5),
-        b"*" => Some(32),
-        b"/" => Some(33),
-        b"%" => Some(34),
-        b"+" => Some(35),
-        b"-" => Some(36),
-        b"<<" => Some(37),
-        b">>" => Some(38),
-        b"<" => Some(39),
-        b"<=" => Some(40),
-        b">" => Some(41),
-        b">=" => Some(42),
-        b"==" => Some(43),
-        b"!=" => Some(44),
-        b"&" => Some(45),
-        b"^" => Some(46),
-        b"|" => Some(47),
-        b"&&" => Some(48),
-        b"||" => Some(49),
-        b"=" => Some(50),
-        b"," => Some(51),
+    match (position, spelling) {
+        (Position::Before, b"!") => Some(0),
+        (Position::Before, b"~") => Some(1),
+        (Position::Before, b"-") => Some(2),
+        (Position::Before, b"+") => Some(3),
+        (Position::After, b"++") => Some(4),
+        (Position::After, b"--") => Some(5),
+        (Position::After, b"*") => Some(32),
+        (Position::After, b"/") => Some(33),
+        (Position::After, b"%") => Some(34),
+        (Position::After, b"+") => Some(35),
+        (Position::After, b"-") => Some(36),
+        (Position::After, b"<<") => Some(37),
+        (Position::After, b">>") => Some(38),
+        (Position::After, b"<") => Some(39),
+        (Position::After, b"<=") => Some(40),
+        (Position::After, b">") => Some(41),
+        (Position::After, b">=") => Some(42),
+        (Position::After, b"==") => Some(43),
+        (Position::After, b"!=") => Some(44),
+        (Position::After, b"&") => Some(45),
+        (Position::After, b"^") => Some(46),
+        (Position::After, b"|") => Some(47),
+        (Position::After, b"&&") => Some(48),
+        (Position::After, b"||") => Some(49),
+        (Position::After, b"=") => Some(50),
+        (Position::After, b",") => Some(51),
         _ => None,
     }
 }
@@ -107,11 +97,7 @@ impl Notation for Ladder {
         ladder_operator(function)
     }
 
-    fn before(&self, spelling: &[u8]) -> Option<u8> {
-        ladder_before(spelling)
-    }
-
-    fn after(&self, spelling: &[u8]) -> Option<u8> {
-        ladder_after(spelling)
+    fn listed(&self, position: Position, spelling: &[u8]) -> Option<u8> {
+        ladder_listed(position, spelling)
     }
 }

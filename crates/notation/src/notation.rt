@@ -1,9 +1,9 @@
 // What a notation tells its readers and writers.
 ghost use Rattle.std.specs.Prelude.{◌≡◌};
-ghost use Rattle.notation.specs.declared.form.Position.TheVariants.{Before, After};
 ghost use Rattle.notation.specs.Operators.{told};
 ghost use Rattle.notation.specs.Tables.{Table, LawfulTable, listed};
 
+use crate::form::Position;
 use crate::operator::Operator;
 
 // A notation means a table: for each function its operator, or none. Readers and writers know a
@@ -15,13 +15,9 @@ pub trait Notation {
     fn operator(&self, function: u8) -> Option<Operator<'_>>
         ensures { told result ≡ table self.now function };
 
-    // The function whose prefix operator has the spelling, if there is one.
-    fn before(&self, spelling: &[u8]) -> Option<u8>
-        ensures { result ≡ listed (table self.now) Before spelling.now };
-
-    // The function whose infix or postfix operator has the spelling, if there is one.
-    fn after(&self, spelling: &[u8]) -> Option<u8>
-        ensures { result ≡ listed (table self.now) After spelling.now };
+    // The function that is listed under the spelling in the position, if there is one.
+    fn listed(&self, position: Position, spelling: &[u8]) -> Option<u8>
+        ensures { result ≡ listed (table self.now) position spelling.now };
 
     ghost lawful: { (n : Self) → LawfulTable (table n) };
 }

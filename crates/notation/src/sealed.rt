@@ -1,7 +1,6 @@
 // Sealing a list, which makes it a notation.
 ghost use Rattle.std.specs.Prelude.{◌≡◌};
 ghost use Rattle.notation.specs.Chains.{FirstsIn, NextsIn};
-ghost use Rattle.notation.specs.Tables.{listed};
 ghost use Rattle.notation.specs.Views.{open_table, sealed_table};
 ghost use Rattle.notation.specs.Laws.{lawful_in};
 
@@ -50,11 +49,16 @@ impl OpenList {
     }
 }
 
-impl SealedList {
-    // The function that is listed under the spelling in the position, if there is one.
-    fn listed(&self, position: Position, spelling: &[u8]) -> Option<u8>
-        ensures { result ≡ listed (sealed_table self.now) position spelling.now }
-    {
+impl Notation for SealedList {
+    ghost table = { sealed_table };
+
+    ghost lawful = { λ n. lawful_in (sealed_table n) n.list.lawful };
+
+    fn operator(&self, function: u8) -> Option<Operator<'_>> {
+        self.list.operator(function)
+    }
+
+    fn listed(&self, position: Position, spelling: &[u8]) -> Option<u8> {
         let [first, ..] = spelling else {
             return None;
         };
@@ -66,23 +70,5 @@ impl SealedList {
             function = usize::from(self.nexts[function]);
         }
         None
-    }
-}
-
-impl Notation for SealedList {
-    ghost table = { sealed_table };
-
-    ghost lawful = { λ n. lawful_in (sealed_table n) n.list.lawful };
-
-    fn operator(&self, function: u8) -> Option<Operator<'_>> {
-        self.list.operator(function)
-    }
-
-    fn before(&self, spelling: &[u8]) -> Option<u8> {
-        self.listed(Position::Before, spelling)
-    }
-
-    fn after(&self, spelling: &[u8]) -> Option<u8> {
-        self.listed(Position::After, spelling)
     }
 }

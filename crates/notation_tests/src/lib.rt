@@ -3,7 +3,7 @@
 
 #[cfg(test)]
 mod tests {
-    use notation::{Ladder, Notation, OpenList};
+    use notation::{Ladder, Notation, OpenList, Position};
     use std::process::Abort;
     use std::test::Fail;
 
@@ -101,15 +101,15 @@ mod tests {
     #[test]
     fn lookups(rt: HostRuntime) -> Result<(), Fail> {
         let empty = OpenList::new().seal();
-        assert!(rt; empty.before(b"not").is_none());
+        assert!(rt; empty.listed(Position::Before, b"not").is_none());
         assert!(rt; empty.operator(0).is_none());
         let mut list = OpenList::new();
         accepted(&rt, &mut list, b"2 200 fy -", "a sign before")?;
         accepted(&rt, &mut list, b"36 500 yfx -", "the same sign after")?;
         let sealed = list.seal();
-        assert!(rt; sealed.before(b"-") == Some(2));
-        assert!(rt; sealed.after(b"-") == Some(36));
-        assert!(rt; sealed.after(b"--").is_none());
+        assert!(rt; sealed.listed(Position::Before, b"-") == Some(2));
+        assert!(rt; sealed.listed(Position::After, b"-") == Some(36));
+        assert!(rt; sealed.listed(Position::After, b"--").is_none());
         Ok(())
     }
 
@@ -121,9 +121,9 @@ mod tests {
                 continue;
             };
             if function < 4 {
-                assert!(rt; Ladder.before(operator.spelling) == Some(function));
+                assert!(rt; Ladder.listed(Position::Before, operator.spelling) == Some(function));
             } else {
-                assert!(rt; Ladder.after(operator.spelling) == Some(function));
+                assert!(rt; Ladder.listed(Position::After, operator.spelling) == Some(function));
             }
         }
         assert!(rt; Ladder.operator(52).is_none());

@@ -10,8 +10,8 @@ use Rattle.notation.specs.Laws.{lawful_in}
 use Rattle.notation.proofs.Chained.{Along, along_start, along_end, along_begins, along_more}
 use Rattle.notation.specs.LookupsLemmas.{test_listed, listed_test, is_listed_lem, listed_none, inside}
 use Rattle.notation.proofs.Seals.{none_empty}
-use Rattle.notation.proofs.list.SealedList.listed.Goals as goal
-use Rattle.notation.proofs.list.SealedList.listed.Goals.{After-from-function-in-loop-function}
+use Rattle.notation.proofs.sealed.SealedListNotation.listed.Goals as goal
+use Rattle.notation.proofs.sealed.SealedListNotation.listed.Goals.{After-from-function-in-loop-function}
 
 pub returns-in_default : goal.returns-in_default
 returns-in_default c =
