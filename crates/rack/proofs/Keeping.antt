@@ -1,13 +1,16 @@
 -- Sound nodes stay sound: a tree's nodes are, and what comes later does not matter.
-use Rattle.std.proofs.Common.{◌≡◌, ℕ, ◌+◌, ◌-◌, ◌<◌, List, get_or, sym, refl, ap, ◌∙◌, subst, inl, inr, ⊎_elim, arith}
+use Rattle.std.proofs.Common.{◌≡◌, ℕ, ◌+◌, ◌-◌, ◌<◌, true, not, eqb, List, length, get_or, take, Some, None, Option, MatchOption, sym, refl, ap, ◌∙◌, subst, inl, inr, ⊎_elim, arith}
+use Rattle.std.specs.Option.{option_eq}
 use Rattle.std.proofs.lemmas.Bool.{cases_lt}
+use Rattle.std.proofs.lemmas.Bool.Decides.{nat_tests}
+use Rattle.std.proofs.lemmas.List.{get_or-take, length-take-le}
 use Rattle.grammar.specs.Trees.{Tree}
 use Rattle.grammar.specs.Trees.Tree.{name, one, two}
 use Rattle.rack.specs.declared.node.Item.{Item}
 use Rattle.rack.specs.declared.node.Item.TheVariants as I
 use Rattle.rack.specs.declared.node.Node.{Node}
 use Rattle.rack.specs.Nodes.{size, blank, LiesFrom, SameBelow}
-use Rattle.rack.specs.Racks.{ProperTree, item_at, size_at, HasOne, HasTwo, Heads, Sound, SoundBelow, Lies}
+use Rattle.rack.specs.Racks.{ProperTree, item_at, size_at, Heads, Sound, SoundBelow, Lies}
 use Rattle.rack.proofs.Lying.{size_some, root_size, name_item, one_item, two_item}
 use Rattle.rack.proofs.Postorder.{lies_where_put}
 
@@ -49,6 +52,39 @@ sound_where_put rack from tree proper put sound i lt =
     (λ later. tree_sound rack (from + size tree - 1) tree (lies_where_put rack from tree proper put) i (omega arith) (omega (arith, size_some tree)))
     (cases_lt i from)
 
+-- what stands at a place heads one tree at most, and only the nodes before it matter
+heads_one : (rack : List Node) (i : ℕ) (x : Item) (m n : ℕ) → Heads rack i x m → Heads rack i x n → m ≡ n
+heads_one rack i (I.Name w) m n p q = p.1 ∙ sym q.1
+heads_one rack i (I.Function f) m n (inl p) (inl q) = p.whole ∙ sym q.whole
+heads_one rack i (I.Function f) m n (inl p) (inr q) = absurd (omega arith)
+heads_one rack i (I.Function f) m n (inr p) (inl q) = absurd (omega arith)
+heads_one rack i (I.Function f) m n (inr p) (inr q) = p.whole ∙ sym q.whole
+
+heads_same : (before after : List Node) (i : ℕ) → ((k : ℕ) → k < i → size_at before k ≡ size_at after k) → (x : Item) (n : ℕ) → Heads before i x n → Heads after i x n
+heads_same before after i same (I.Name w) n h = h
+heads_same before after i same (I.Function f) n (inl h) =
+    let operand = same (i - 1) (omega arith) in
+    inl (record { function = h.function; operand = h.operand; whole = omega arith })
+heads_same before after i same (I.Function f) n (inr h) =
+    let second = same (i - 1) (omega arith) in
+    let first = same (i - 1 - size_at before (i - 1)) (omega arith) ∙ ap (λ k. size_at after (i - 1 - k)) second in
+    inr (record { low = h.low; high = h.high; operands = omega arith; whole = omega arith })
+
+-- the node at i is not sound if the nodes before it tell another size than its own, or none
+other_size : (r : Option ℕ) (P : ℕ → Type 0) (n : ℕ) → MatchOption r ((k : ℕ) → P k → ⊥) P → ((k : ℕ) → P k → k ≡ n) → true ≡ not (option_eq eqb r (Some n)) → P n → ⊥
+other_size None P n h same other p = h n p
+other_size (Some m) P n h same other p = let e : m ≡ n = same m h in grind (arith, nat_tests)
+
+pub unsound_here : (rack : List Node) (root i : ℕ) (r : Option ℕ) → root < length rack → i < root + 1 → let front = take i rack in let x = get_or (take (root + 1) rack) i blank in MatchOption r ((n : ℕ) → Heads front (length front) x.item n → ⊥) (λ n. Heads front (length front) x.item n) → true ≡ not (option_eq eqb r (Some x.size)) → Sound rack i → ⊥
+unsound_here rack root i r within lt h other sound =
+    let front = take i rack in
+    let x = get_or (take (root + 1) rack) i blank in
+    let at : length front ≡ i = length-take-le i rack (omega arith) in
+    let same = λ (k : ℕ) (less : k < i). ap (λ (y : Node). y.size) (sym (get_or-take i rack k blank less)) in
+    let here = heads_same rack front i same x.item x.size (subst (λ (y : Node). Heads rack i y.item y.size) (sym (get_or-take (root + 1) rack i blank lt)) sound) in
+    let heads = subst (λ (k : ℕ). Heads front k x.item x.size) (sym at) here in
+    other_size r (Heads front (length front) x.item) x.size h (λ k p. heads_one front (length front) x.item k x.size p heads) other heads
+
 module _ (n : ℕ) (before after : List Node) (same : SameBelow n before after) where
   same_node : (i : ℕ) → i < n → get_or before i blank ≡ get_or after i blank
   same_node i lt = sym (same.same i blank lt)
@@ -56,25 +92,8 @@ module _ (n : ℕ) (before after : List Node) (same : SameBelow n before after) 
   size_same : (i : ℕ) → i < n → size_at before i ≡ size_at after i
   size_same i lt = ap (λ (x : Node). x.size) (same_node i lt)
 
-  one_same : (i f : ℕ) → i < n → HasOne before i f (size_at before i) → HasOne after i f (size_at after i)
-  one_same i f lt h =
-      let here = size_same i lt in
-      let operand = size_same (i - 1) (omega arith) in
-      record { function = h.function; operand = h.operand; whole = omega (arith, h.whole) }
-
-  two_same : (i f : ℕ) → i < n → HasTwo before i f (size_at before i) → HasTwo after i f (size_at after i)
-  two_same i f lt h =
-      let here = size_same i lt in
-      let second = size_same (i - 1) (omega arith) in
-      let first : size_at before (i - 1 - size_at before (i - 1)) ≡ size_at after (i - 1 - size_at after (i - 1)) = size_same (i - 1 - size_at before (i - 1)) (omega arith) ∙ ap (λ k. size_at after (i - 1 - k)) second in
-      record { low = h.low; high = h.high; operands = omega (arith, h.operands); whole = omega (arith, h.whole) }
-
-  as_same : (i : ℕ) (x : Item) → i < n → Heads before i x (size_at before i) → Heads after i x (size_at after i)
-  as_same i (I.Name w) lt h = (h.0, sym (size_same i lt) ∙ h.1)
-  as_same i (I.Function f) lt h = ⊎_elim (λ (k : HasOne before i f (size_at before i)). inl (one_same i f lt k)) (λ (k : HasTwo before i f (size_at before i)). inr (two_same i f lt k)) h
-
   sound_same : SoundBelow before n → SoundBelow after n
-  sound_same sound i lt = subst (λ (x : Item). Heads after i x (size_at after i)) (ap (λ (x : Node). x.item) (same_node i lt)) (as_same i (item_at before i) lt (sound i lt))
+  sound_same sound i lt = subst (λ (x : Item). Heads after i x (size_at after i)) (ap (λ (x : Node). x.item) (same_node i lt)) (subst (Heads after i (item_at before i)) (size_same i lt) (heads_same before after i (λ k less. size_same k (omega arith)) (item_at before i) (size_at before i) (sound i lt)))
 
   lies_same : (i : ℕ) (t : Tree) → i < n → Lies before i t → Lies after i t
   lies_same i (name w) lt l = (l.0, sym (same_node i lt) ∙ l.1)

@@ -1,6 +1,8 @@
 -- Where the nodes up to a root are sound, one tree lies there and no other.
-use Rattle.std.proofs.Common.{◌≡◌, ℕ, zero, suc, ◌+◌, ◌-◌, ◌<◌, ◌≤◌, List, length, get_or, sym, refl, ap, ◌∙◌, subst, ⊎_elim, arith}
-use Rattle.std.proofs.lemmas.List.{get_or_past}
+use Rattle.std.proofs.Common.{◌≡◌, ℕ, zero, suc, ◌+◌, ◌-◌, ◌<◌, ◌≤◌, List, length, get_or, take, Some, sym, refl, ap, ◌∙◌, subst, ⊎_elim, arith}
+use Rattle.std.proofs.lemmas.List.{get_or_past, get_or-take, length-take-le}
+use Rattle.std.specs.List.{slice_get}
+use Rattle.std.proofs.lemmas.Option.{get_or_from_slice_get, slice_get_within}
 use Rattle.std.proofs.lemmas.Bool.{cases_lt}
 use Rattle.tokens.specs.InOrder.{Only}
 use Rattle.grammar.specs.Trees.{Tree}
@@ -128,6 +130,18 @@ module _ (rack : List Node) where
   -- so sizes are small
   pub size_within : (n i : ℕ) → i < n → SoundBelow rack n → size_at rack i ≤ i + 1
   size_within n i lt sound = let h = here n i lt sound in omega (arith, root_size i h.0 h.1, begins i h.0 h.1)
+
+-- the tree whose root is the last node before a place begins within the rack
+pub size_before : (rack : List Node) (place : ℕ) (x : Node) → place ≤ length rack → SoundBelow rack (length rack) → let front = take place rack in Some x ≡ slice_get front (length front - 1) → (0 < place) × (x.size ≡ size_at rack (place - 1)) × (x.size ≤ place)
+size_before rack place x le sound last =
+    let front = take place rack in
+    let k = length front - 1 in
+    let long : length front ≡ place = length-take-le place rack le in
+    let within = slice_get_within front k x (sym last) in
+    let here : x ≡ get_or rack (place - 1) blank =
+    sym (get_or_from_slice_get front k x blank (sym last)) ∙ ap (λ n. get_or front (n - 1) blank) long ∙ get_or-take place rack (place - 1) blank (omega arith) in
+    let is = same_size x (get_or rack (place - 1) blank) here in
+    (omega arith, is, omega (arith, size_within rack (length rack) (place - 1) (omega arith) sound))
 
 pub one_tree_lies : (rack : List Node) (root : ℕ) → SoundBelow rack (root + 1) → (tree : Tree) × Only (Lies rack root) tree
 one_tree_lies rack root sound =

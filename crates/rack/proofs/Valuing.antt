@@ -1,6 +1,6 @@
 -- The values that a loop over a tree's nodes stores are those of the trees that they head.
-use Rattle.std.proofs.Common.{◌≡◌, ℕ, ◌+◌, ◌-◌, ◌<◌, ◌≤◌, List, [], ◌∷◌, ◌++◌, length, get_or, take, drop, set, Ok, Result, sym, refl, ap, ◌∙◌, subst, inr, ⊎_elim, arith}
-use Rattle.std.proofs.lemmas.List.{length-append, length_push, get_or_append_left, get_or_default, get_or-take, take-append-drop, take_all, take_more, take_more_set, drop-drop, drop-set-lt}
+use Rattle.std.proofs.Common.{◌≡◌, ℕ, ◌+◌, ◌-◌, ◌<◌, ◌≤◌, List, [], ◌∷◌, ◌++◌, length, get_or, take, drop, set, Ok, Result, sym, refl, ap, ◌∙◌, subst, inl, inr, ⊎_elim, arith}
+use Rattle.std.proofs.lemmas.List.{length-append, length_push, get_or_append_left, get_or_default, get_or-take, length-take-le, take-append-drop, take_all, take_more, take_more_set, drop-drop, drop-set-lt}
 use Rattle.std.proofs.lemmas.Bool.{cases_lt}
 use Rattle.tokens.specs.Faults.{fault}
 use Rattle.tokens.specs.InOrder.{Refused, Accepted}
@@ -137,8 +137,24 @@ module _ {V : Type 0} (m : Meaning V) where
   pub stored_none : (nodes : List Node) (before : List V) → Stored nodes before before 0
   stored_none nodes before = record { front = λ tree proper is. refl; rest = refl }
 
-  pub stored_more : (nodes : List Node) (before values : List V) (i : ℕ) (v : V) → Stored nodes before values i → i < length nodes → i < length values → Sound nodes i → ComesFrom m nodes i (item_at nodes i) values v → Stored nodes before (set values i v) (i + 1)
-  stored_more nodes before values i v h lt room sound comes =
+  -- only the nodes and the values before a place matter there
+  comes_front : (nodes : List Node) (values : List V) (i : ℕ) (x : Item) (n : ℕ) (v : V) → Heads nodes i x n → ComesFrom m (take i nodes) i x (take i values) v → ComesFrom m nodes i x values v
+  comes_front nodes values i (I.Name k) n v h p = p
+  comes_front nodes values i (I.Function f) n v (inl h) p =
+      (λ less d. p.0 less d ∙ ap (m.single f) (get_or-take i values (i - 1) d (omega arith)), λ more d. absurd (omega arith))
+  comes_front nodes values i (I.Function f) n v (inr h) p = (
+    λ less d. absurd (omega arith),
+    λ more d.
+        let second = get_or-take i values (i - 1) d (omega arith) in
+        let size : size_at (take i nodes) (i - 1) ≡ size_at nodes (i - 1) = ap (λ (y : Node). y.size) (get_or-take i nodes (i - 1) blank (omega arith)) in
+        let first = ap (λ k. get_or (take i values) (i - 1 - k) d) size ∙ get_or-take i values (i - 1 - size_at nodes (i - 1)) d (omega arith) in
+        p.1 more d ∙ (λ j. m.double f (first j) (second j)),
+  )
+
+  pub stored_more : (nodes : List Node) (before values : List V) (i : ℕ) (v : V) → Stored nodes before values i → i < length nodes → i < length values → Sound nodes i → ComesFrom m (take i nodes) (length (take i nodes)) (item_at nodes i) (take i values) v → Stored nodes before (set values i v) (i + 1)
+  stored_more nodes before values i v h lt room sound from =
+      let at = length-take-le i nodes (omega arith) in
+      let comes = comes_front nodes values i (item_at nodes i) (size_at nodes i) v sound (subst (λ (k : ℕ). ComesFrom m (take i nodes) k (item_at nodes i) (take i values) v) at from) in
       record {
         front = λ tree proper is.
             let vs = values_of m tree in

@@ -1,9 +1,12 @@
 -- The word that a name's bytes spell, and when the bytes are a proper name.
-use Rattle.std.proofs.Common.{◌≡◌, ℕ, zero, suc, ◌+◌, ◌-◌, ◌<◌, ◌≤◌, Bool, true, false, eqb, List, [], ◌∷◌, ◌++◌, length, get_or, take, drop, replicate, Some, Decides, MatchBool, sym, refl, ap, ◌∙◌, subst, append_assoc, append-nil, arith}
-use Rattle.std.specs.List.{AllByRecursion}
+use Rattle.std.proofs.Common.{◌≡◌, ◌==◌, ℕ, zero, suc, ◌+◌, ◌-◌, ◌<◌, ◌≤◌, Bool, true, false, not, cond, eqb, List, [], ◌∷◌, ◌++◌, length, position, get_or, take, drop, replicate, Some, unwrap_or, Decides, MatchBool, sym, refl, ap, ◌∙◌, subst, arith}
+use Rattle.std.specs.List.{AllByRecursion, AllWithin, HoldsAt, position_or_len}
 use Rattle.std.proofs.ByRecursion.{All-get_or}
-use Rattle.std.proofs.lemmas.List.{length-drop, length-take-le, take-append-drop, take_more, drop_all, drop_more, drop_at}
-use Rattle.std.proofs.lemmas.Bool.{both_ways, eq-eqb, ne_eqb, cond-true, cond-false}
+use Rattle.std.proofs.lemmas.List.{length-drop, length-take-le, take-append-drop, drop_at}
+use Rattle.std.proofs.lemmas.Bool.{both_ways, ne_eqb, cond-false}
+use Rattle.std.proofs.lemmas.Bool.Decides.{nat_tests}
+use Rattle.std.proofs.lemmas.List.Elements.{recursion_from_All}
+use Rattle.std.proofs.lemmas.List.Sums.{prefix_len-le-length}
 use Rattle.tokens.specs.Bytes.{class_of}
 use Rattle.tokens.specs.Tokens.{kind_in, kind_of, WellFormed}
 use Rattle.tokens.specs.declared.byte.ByteClass.{ByteClass}
@@ -13,18 +16,10 @@ use Rattle.rack.specs.declared.name.Name.{Name}
 use Rattle.rack.specs.Nodes.{padded}
 use Rattle.rack.specs.Names.{ShortWord, ProperName, spelt}
 
--- one element that is not so is enough
-pub not_all : {X : Type 0} (P : X → Type 0) (xs : List X) (i : ℕ) (d : X) → i < length xs → (P (get_or xs i d) → ⊥) → AllByRecursion P xs → ⊥
-not_all P xs i d lt not-here all = not-here (All-get_or P xs i d lt all)
-
 -- an answer in other words
 pub when_so : (r : Bool) {P Q R S : Type 0} → (P → R) → (Q → S) → MatchBool r P Q → MatchBool r R S
 when_so true f g h = f h
 when_so false f g h = g h
-
-pub by_test : {P Q : Type 0} (r : Bool) → (r ≡ true → P) → (r ≡ false → Q) → MatchBool r P Q
-by_test true f g = f refl
-by_test false f g = g refl
 
 -- word bytes are those of the class, and of the kind
 class_is : (c : ByteClass) → kind_in c ≡ Some Word → c ≡ C.Word
@@ -38,46 +33,43 @@ class_is C.Unlawful e = let z : ◌≡◌ {A = ℕ} 0 1 = cc in absurd (omega ar
 abbrev pub InWord : ℕ → Type 0
 InWord b = kind_of b ≡ Some Word
 
-pub word_byte : (b : ℕ) → class_of b ≡ C.Word → InWord b
+word_byte : (b : ℕ) → class_of b ≡ C.Word → InWord b
 unfolding kind_of
 word_byte b is = ap kind_in is
 
-pub no_word_byte : (b : ℕ) → (class_of b ≡ C.Word → ⊥) → InWord b → ⊥
+no_word_byte : (b : ℕ) → (class_of b ≡ C.Word → ⊥) → InWord b → ⊥
 unfolding kind_of
 no_word_byte b other is = other (class_is (class_of b) is)
+
+-- some bytes are a word if each of them is of that class
+pub word_if_bytes : (xs : List ℕ) (r : Bool) → 0 < length xs → MatchBool r (AllWithin (λ b. class_of b ≡ C.Word) xs 0 (length xs)) ((k : ℕ) × (k < length xs) × HoldsAt (λ b. class_of b ≡ C.Word → ⊥) xs k) → MatchBool r (WellFormed Word xs) (WellFormed Word xs → ⊥)
+word_if_bytes xs true some all =
+    record { some = some; alike = recursion_from_All InWord xs (λ k d lt. word_byte (get_or xs k d) (all k d (omega arith) lt)); alone = λ e. cc }
+word_if_bytes xs false some (k, lt, other) = λ word. no_word_byte (get_or xs k 0) (other 0) (All-get_or InWord xs k 0 lt word.alike)
 
 abbrev pub IsZero : ℕ → Type 0
 IsZero b = b ≡ 0
 
--- the first i bytes are no zeros, so they begin the word
-abbrev pub Begins : List ℕ → ℕ → Type 0
-Begins xs i = spelt xs ≡ take i xs ++ spelt (drop i xs)
-
-pub begins_none : (xs : List ℕ) → Begins xs 0
-begins_none xs = refl
-
 goes_on : (b : ℕ) (bs : List ℕ) → (b ≡ 0 → ⊥) → spelt (b ∷ bs) ≡ b ∷ spelt bs
 goes_on b bs some = cond-false (eqb b 0) [] (b ∷ spelt bs) (ne_eqb b 0 some)
 
-stops : (b : ℕ) (bs : List ℕ) → b ≡ 0 → spelt (b ∷ bs) ≡ []
-stops b bs none = cond-true (eqb b 0) [] (b ∷ spelt bs) (eq-eqb b 0 none)
+-- the bytes before the first zero are the word
+before_zero : (xs : List ℕ) → take (position_or_len (λ b. b == 0) xs) xs ≡ spelt xs
+before_zero [] = refl
+before_zero (b ∷ bs) =
+    let n = position_or_len (λ x. x == 0) bs in
+    let next : 1 + n ≡ suc n = omega arith in
+    elim (eqb b 0) as (λ z. take (cond (not z) (1 + n) 0) (b ∷ bs) ≡ cond z [] (b ∷ spelt bs)) [
+      | true ↦ refl
+      | false ↦ (λ j. take (next j) (b ∷ bs)) ∙ ap (λ (l : List ℕ). b ∷ l) (before_zero bs)
+    ]
 
-pub begins_more : (xs : List ℕ) (i : ℕ) → i < length xs → Begins xs i → (get_or xs i 0 ≡ 0 → ⊥) → Begins xs (i + 1)
-begins_more xs i lt so_far some =
-    let front = take i xs in
-    let here = get_or xs i 0 in
-    let rest = spelt (drop (i + 1) xs) in
-    so_far
-    ∙ ap (λ (l : List ℕ). front ++ l) (ap spelt (drop_more xs i 0 lt) ∙ goes_on here (drop (i + 1) xs) some)
-    ∙ sym (append_assoc front (here ∷ []) rest)
-    ∙ ap (λ (l : List ℕ). l ++ rest) (sym (take_more xs i 0 lt))
-
-pub begins_zero : (xs : List ℕ) (i : ℕ) → i < length xs → Begins xs i → get_or xs i 0 ≡ 0 → take i xs ≡ spelt xs
-begins_zero xs i lt so_far none =
-    sym (so_far ∙ ap (λ (l : List ℕ). take i xs ++ l) (ap spelt (drop_more xs i 0 lt) ∙ stops (get_or xs i 0) (drop (i + 1) xs) none) ∙ append-nil (take i xs))
-
-pub begins_all : (xs : List ℕ) (i : ℕ) → length xs ≤ i → Begins xs i → take i xs ≡ spelt xs
-begins_all xs i end so_far = sym (so_far ∙ ap (λ (l : List ℕ). take i xs ++ spelt l) (drop_all i xs end) ∙ append-nil (take i xs))
+pub word_begins : (xs : List ℕ) (n : ℕ) → n ≡ unwrap_or (position (λ b. b == 0) xs) (length xs) → take n xs ≡ spelt xs
+word_begins xs n is =
+    let m = position_or_len (λ b. b == 0) xs in
+    let few : m ≤ length xs = prefix_len-le-length (λ b. not (b == 0)) xs in
+    let at : n ≡ m = grind (arith, nat_tests) in
+    rw at (before_zero xs)
 
 -- words have no zeros, so padding can be told from them
 word_some : (b : ℕ) → InWord b → b ≡ 0 → ⊥

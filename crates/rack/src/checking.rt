@@ -1,64 +1,26 @@
 // Whether the nodes up to a root obey the rack's rules.
-ghost use Rattle.std.specs.Prelude.{◌≡◌, ℕ, ◌+◌, ◌<◌, length, IfOk, MatchBool, MatchOption, MatchResult};
+ghost use Rattle.std.specs.Prelude.{◌≡◌, ℕ, ◌+◌, ◌<◌, length, IfOk, MatchBool, MatchResult};
 ghost use Rattle.tokens.specs.Faults.{fault};
 ghost use Rattle.tokens.specs.InOrder.{Only, Accepted};
 ghost use Rattle.rack.specs.Nodes.{size, room};
-ghost use Rattle.rack.specs.Racks.{item_at, Heads, Sound, SoundBelow, FirstUnsound};
+ghost use Rattle.rack.specs.Racks.{SoundBelow, FirstUnsound};
 ghost use Rattle.rack.specs.Roots.{NoRoot, AtTree, Rooted};
 
 use crate::fill::Fill;
-use crate::node::{Item, Node};
+use crate::node::Node;
+use crate::sound::SoundNodes;
 use tokens::{Fault, FaultKind};
-
-// Functions below this one take one operand, those from it on two.
-pub(crate) const FIRST_OF_TWO_OPERANDS: u8 = 32;
-
-// The number of functions.
-pub(crate) const FUNCTIONS: u8 = 64;
-
-// The size of the tree that the node heads, as the sound nodes before it tell, or none if it heads none.
-fn headed_size(rack: &[Node], at: usize) -> Option<usize>
-    requires within { at < length rack.now }
-    requires earlier { SoundBelow rack.now at }
-    ensures { MatchOption result ((n : ℕ) → Heads rack.now at (item_at rack.now at) n → ⊥) (λ n. Heads rack.now at (item_at rack.now at) n) }
-{
-    match rack[at].item {
-        Item::Name(name) => name.is_proper().then_some(1),
-        Item::Function(function) => {
-            if at == 0 || function >= FUNCTIONS {
-                return None;
-            }
-            let size = rack[at - 1].size;
-            if function < FIRST_OF_TWO_OPERANDS {
-                return Some(size + 1);
-            }
-            if size >= at {
-                return None;
-            }
-            Some(rack[at - 1 - size].size + size + 1)
-        }
-    }
-}
-
-// Whether the node obeys the rules, where those before it do.
-fn is_sound(rack: &[Node], at: usize) -> bool
-    requires within { at < length rack.now }
-    requires earlier { SoundBelow rack.now at }
-    ensures { MatchBool result (Sound rack.now at) (Sound rack.now at → ⊥) }
-{
-    match headed_size(rack, at) {
-        Some(size) => rack[at].size == size,
-        None => false,
-    }
-}
 
 // Refuses a node up to the root that breaks the rules, at its place: the first there is.
 fn check_nodes(rack: &[Node], root: usize) -> Result<(), Fault>
     requires { root < length rack.now }
     ensures { MatchResult result (λ _. SoundBelow rack.now (root + 1)) (λ f. FirstUnsound rack.now root f.place × (f ≡ fault FaultKind.MalformedRack f.place)) }
 {
-    for place in 0..root + 1 {
-        if !is_sound(rack, place) {
+    for (place, node) in rack[..=root].iter().enumerate() {
+        let earlier = SoundNodes {
+            nodes: &rack[..place],
+        };
+        if earlier.headed_size(node.item) != Some(node.size) {
             return Err(Fault {
                 kind: FaultKind::MalformedRack,
                 place,

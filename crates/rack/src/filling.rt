@@ -29,13 +29,14 @@ impl Fill {
         ensures fill { MatchResult result (λ _. self.new.used ≡ self.old.used + nodes) (λ _. self.new.used ≡ self.old.used) }
     {
         let room = rack.len().min(RACK_NODES);
-        if self.used > room || nodes > room - self.used {
-            return Err(Fault {
+        self.used = self
+            .used
+            .checked_add(nodes)
+            .filter(|&used| used <= room)
+            .ok_or(Fault {
                 kind: FaultKind::RackFull,
                 place: self.used,
-            });
-        }
-        self.used += nodes;
+            })?;
         Ok(())
     }
 }

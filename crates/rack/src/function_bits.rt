@@ -5,7 +5,6 @@ ghost use Rattle.rack.specs.FunctionSets.{SetAnswered, bit_of, bits_meaning};
 ghost use Rattle.rack.specs.Roots.{AtTree};
 ghost use Rattle.rack.specs.Reckoning.{Valued};
 
-use crate::checking::FUNCTIONS;
 use crate::fill::Fill;
 use crate::function_set::FunctionSet;
 use crate::name::Name;
@@ -18,11 +17,7 @@ use tokens::Fault;
 fn bit(function: u8) -> u64
     ensures { result ≡ bit_of function }
 {
-    if function < FUNCTIONS {
-        1 << function
-    } else {
-        0
-    }
+    1u64.checked_shl(function.into()).unwrap_or(0)
 }
 
 // Rules for the functions in a tree, as bits.

@@ -11,6 +11,7 @@ mod naming;
 mod node;
 mod reckoning;
 mod rules;
+mod sound;
 mod spelling;
 mod theorems;
 

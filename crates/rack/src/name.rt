@@ -1,10 +1,12 @@
 // Names, as they lie in the nodes of a rack.
 
-// The longest name, in bytes.
-pub const MAX_NAME_BYTES: usize = 16;
+use tokens::MAX_WORD_BYTES;
+
+// The longest name, in bytes: a name is a word.
+pub const MAX_NAME_BYTES: usize = MAX_WORD_BYTES;
 
 // A name: 1 to 16 word bytes, and zeros in the bytes that it does not use.
-#[derive(Clone, Copy)]
+#[derive(Clone, Copy, PartialEq, Eq)]
 pub struct Name {
     pub bytes: [u8; MAX_NAME_BYTES],
 }

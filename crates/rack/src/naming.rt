@@ -13,7 +13,8 @@ impl Name {
             return None;
         }
         let mut bytes = [0; MAX_NAME_BYTES];
-        bytes[0..word.len()].copy_from_slice(word);
+        // Not `get_mut(..)?`: what the array holds after a write to such a part is not known.
+        bytes[..word.len()].copy_from_slice(word);
         Some(Name { bytes })
     }
 }

@@ -3,46 +3,52 @@ ghost use Rattle.std.specs.Prelude.{◌≡◌, ◌<◌, ◌≤◌, ◌++◌, len
 ghost use Rattle.tokens.specs.InOrder.{Only};
 ghost use Rattle.grammar.specs.Trees.{Tree};
 ghost use Rattle.rack.specs.Nodes.{size, nodes_of};
-ghost use Rattle.rack.specs.Racks.{ProperTree, item_at, Sound, SoundBelow};
+ghost use Rattle.rack.specs.Racks.{ProperTree, Heads};
 ghost use Rattle.rack.specs.Roots.{AtTree};
 ghost use Rattle.rack.specs.Reckoning.{values_of, ValueOf, Valued, ComesFrom};
 
-use crate::checking::{FIRST_OF_TWO_OPERANDS, check_tree};
+use crate::checking::check_tree;
 use crate::fill::Fill;
 use crate::node::{Item, Node};
 use crate::rules::Rules;
+use crate::sound::SoundNodes;
+use notation::FIRST_OF_TWO;
 use tokens::{Fault, FaultKind};
 
-// The value of the node, from those of the nodes before it.
-fn value_at<R: Rules>(rules: &R, nodes: &[Node], at: usize, values: &[R::Value]) -> R::Value
-    requires node { at < length nodes.now }
-    requires room { at < length values.now }
-    requires sound { Sound nodes.now at }
-    ensures { ComesFrom (R.Rules.meaning rules.now) nodes.now at (item_at nodes.now at) values.now result }
+// The value of a node that comes next after sound ones, from their values.
+fn next_value<R: Rules>(
+    rules: &R,
+    earlier: &SoundNodes<'_>,
+    node: &Node,
+    values: &[R::Value],
+) -> R::Value
+    requires sound { Heads earlier.now (length earlier.now) node.now.item node.now.size }
+    requires values { length values.now ≡ length earlier.now }
+    ensures { ComesFrom (R.Rules.meaning rules.now) earlier.now (length earlier.now) node.now.item values.now result }
 {
-    match &nodes[at].item {
+    match &node.item {
         Item::Name(name) => rules.name(name),
         Item::Function(function) => {
-            let second = values[at - 1];
-            if *function < FIRST_OF_TWO_OPERANDS {
-                rules.one(*function, second)
-            } else {
-                let first = values[at - 1 - nodes[at - 1].size];
-                rules.two(*function, first, second)
+            let second = values.len() - 1;
+            if *function < FIRST_OF_TWO {
+                return rules.one(*function, values[second]);
             }
+            let first = second - earlier.nodes[second].size;
+            rules.two(*function, values[first], values[second])
         }
     }
 }
 
 // Stores the value of each node, given the nodes of a tree.
-fn store_values<R: Rules>(rules: &R, nodes: &[Node], values: &mut [R::Value])
-    requires room { length nodes.now ≤ length values.old }
-    requires sound { SoundBelow nodes.now (length nodes.now) }
-    ensures { (tree : Tree) → ProperTree tree → nodes.now ≡ nodes_of tree → values.new ≡ values_of (R.Rules.meaning rules.now) tree ++ drop (size tree) values.old }
+fn store_values<R: Rules>(rules: &R, tree: &SoundNodes<'_>, values: &mut [R::Value])
+    requires { length tree.now ≤ length values.old }
+    ensures { (t : Tree) → ProperTree t → tree.now ≡ nodes_of t → values.new ≡ values_of (R.Rules.meaning rules.now) t ++ drop (size t) values.old }
 {
-    for at in 0..nodes.len() {
-        let value = value_at(rules, nodes, at, values);
-        values[at] = value;
+    for (place, node) in tree.nodes.iter().enumerate() {
+        let earlier = SoundNodes {
+            nodes: &tree.nodes[..place],
+        };
+        values[place] = next_value(rules, &earlier, node, &values[..place]);
     }
 }
 
@@ -65,6 +71,9 @@ pub fn reckon<R: Rules>(
             place: 0,
         });
     }
-    store_values(rules, &rack[root + 1 - size..root + 1], values);
+    let tree = SoundNodes {
+        nodes: &rack[root + 1 - size..=root],
+    };
+    store_values(rules, &tree, values);
     Ok(values[size - 1])
 }

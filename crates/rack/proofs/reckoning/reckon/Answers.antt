@@ -1,22 +1,19 @@
-use Rattle.std.proofs.Common.{List, length, sym, ap, subst, arith}
+use Rattle.std.proofs.Common.{List, length, sym, subst, arith}
 use Rattle.rack.specs.declared.node.Node.{Node}
 use Rattle.rack.specs.Racks.{SoundBelow}
 use Rattle.rack.specs.Reckoning.{ValueOf, Valued}
 use Rattle.rack.proofs.Answering.{rooted_size, rooted_part, rooted_only}
-use Rattle.rack.proofs.Postorder.{nodes_long, proper_tree}
+use Rattle.rack.proofs.Postorder.{proper_tree}
 use Rattle.rack.proofs.Valuing.{sound_alone, reckoned, value_one}
 use Rattle.rack.proofs.reckoning.reckon.Goals as goal
 
-pub store_values-requires : goal.store_values-requires
-store_values-requires g c =
+pub invariant_of-tree : goal.invariant_of-tree
+invariant_of-tree g c =
     let rooted = c.in_ok-size.ensures.tree in
     let tree = rooted.tree in
     let l = rooted.lies.is in
     let part = rooted_part c.args.rack.now c.args.fill.now.used c.args.root c.in_ok-size.size rooted tree l in
-    record {
-      room = omega (arith, ap length part, nodes_long tree, rooted.nodes);
-      sound = subst (λ (ns : List Node). SoundBelow ns (length ns)) (sym part) (sound_alone tree (proper_tree c.args.rack.now c.args.root tree l));
-    }
+    subst (λ (ns : List Node). SoundBelow ns (length ns)) (sym part) (sound_alone tree (proper_tree c.args.rack.now c.args.root tree l))
 
 pub returns : goal.returns
 returns g c =

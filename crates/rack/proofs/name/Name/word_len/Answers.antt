@@ -1,21 +1,13 @@
-use Rattle.std.proofs.Common.{◌≡◌, ◌<◌, length, arith}
-use Rattle.rack.proofs.Words.{begins_none, begins_more, begins_zero, begins_all}
+use Rattle.std.proofs.Common.{◌≡◌, ◌==◌, sym, ap, ◌∙◌, length, position, unwrap_or, arith, rules}
+use Rattle.std.proofs.lemmas.Iterator.{YieldsList-from_slice}
+use Rattle.std.proofs.lemmas.Iterator.Search.{position_from_yields_List}
+use borrow.Author.Tests.{tests}
+use Rattle.rack.proofs.Words.{word_begins}
 use Rattle.rack.proofs.name.Name.word_len.Goals as goal
 
-pub loop-place-init : goal.loop-place-init
-loop-place-init c = begins_none c.args.self.now.bytes
-
-pub returns-then-byte-eq0 : goal.returns-then-byte-eq0
-returns-then-byte-eq0 c =
-    let lt : c.loop-place.place < length c.args.self.now.bytes = omega arith in
-    record { within = omega arith; spelt = begins_zero c.args.self.now.bytes c.loop-place.place lt c.loop-place.invariant c.if-byte-eq0.true }
-
-pub loop-place-preserved : goal.loop-place-preserved
-loop-place-preserved c =
-    let lt : c.loop-place.place < length c.args.self.now.bytes = omega arith in
-    begins_more c.args.self.now.bytes c.loop-place.place lt c.loop-place.invariant c.if-byte-eq0.false
-
-pub returns : goal.returns
-returns c =
-    let end : c.loop-place.place ≡ 16 = omega arith in
-    record { within = omega arith; spelt = rw end at (begins_all c.args.self.now.bytes c.loop-place.place (omega arith) c.loop-place.invariant) }
+pub returns-clause-spelt : goal.returns-clause-spelt
+returns-clause-spelt c =
+    let bytes = c.args.self.now.bytes in
+    let long : length bytes ≡ 16 = omega arith in
+    let first : c.position.result ≡ position (λ b. b == 0) bytes = position_from_yields_List (λ b. b == 0) _ _ c.position.result c.position.ensures.ran (YieldsList-from_slice bytes cc) (λ x b q k. search (rules, tests)) in
+    word_begins bytes c.unwrap_or.result (c.unwrap_or.ensures ∙ ap (λ o. unwrap_or o 16) first ∙ ap (unwrap_or (position (λ b. b == 0) bytes)) (sym long))
