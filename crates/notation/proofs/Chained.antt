@@ -1,74 +1,49 @@
 -- Going along the functions that begin with a byte misses none of them. Assumes nothing.
-use Rattle.std.proofs.Common.{◌≡◌, ℕ, zero, suc, ◌+◌, ◌-◌, ◌<◌, ◌≤◌, Bool, true, false, cond, List, length, get_or, set, Some, None, Option, sym, refl, ap, ◌∙◌, subst, ⊎_elim, arith}
+use Rattle.std.proofs.Common.{◌≡◌, ℕ, suc, ◌+◌, ◌-◌, ◌<◌, ◌≤◌, Bool, true, false, cond, List, length, get_or, set, Some, None, Option, sym, refl, ap, ◌∙◌, subst, ⊎_elim, arith}
+use Rattle.std.specs.List.{find, range_with_len}
 use Rattle.std.proofs.lemmas.List.{get_or-set_same, get_or-set_other, length-set}
-use Rattle.std.proofs.lemmas.Bool.{cases_eq, cases_lt, cases_Bool, eq-eqb, ne_eqb, eqb-true, both_ways}
+use Rattle.std.proofs.lemmas.Bool.{cases_eq, cases_lt, eq-eqb, ne_eqb, eqb-true, both_ways}
 use Rattle.notation.specs.declared.form.Position.{Position}
 use Rattle.notation.specs.Chains.{begins_with, seek, FirstsIn, NextsIn}
 use Rattle.notation.specs.Operators.{Op}
 use Rattle.notation.specs.Tables.{Table, Listed, LawfulTable}
-use Rattle.notation.specs.LookupsLemmas.{inside}
+use Rattle.notation.specs.LookupsLemmas.{FirstFrom, find_is, find_none, inside}
 
 module _ (t : Table) (b : ℕ) where
-  here_or_on : (f n : ℕ) (v : Bool) → begins_with b (t f) ≡ v → seek t b f (suc n) ≡ cond v f (seek t b (suc f) n)
+  here_or_on : (f n : ℕ) (v : Bool) → begins_with b (t f) ≡ v → seek t b f (suc n) ≡ cond v (Some f) (seek t b (f + 1) n)
   unfolding seek
-  here_or_on f n v e = ap (λ (w : Bool). cond w f (seek t b (suc f) n)) e
+  here_or_on f n v e = ap (λ (w : Bool). cond w (Some f) (find (λ g. begins_with b (t g)) (range_with_len (f + 1) n))) e
 
-  pub seek_end : (f : ℕ) → seek t b f 0 ≡ 64
+  pub seek_end : (f : ℕ) → seek t b f 0 ≡ None
   unfolding seek
   seek_end f = refl
 
-  pub seek_from : (n f : ℕ) → f + n ≡ 64 → f ≤ seek t b f n
-  seek_from zero f e = omega (arith, seek_end f)
-  seek_from (suc n) f e =
-      ⊎_elim
-      (λ is. omega (arith, here_or_on f n true is))
-      (λ other. omega (arith, here_or_on f n false other, seek_from n (suc f) (omega arith)))
-      (cases_Bool (begins_with b (t f)))
+  pub seek_is : (f n g : ℕ) → seek t b f n ≡ Some g → FirstFrom (λ h. begins_with b (t h)) f n g
+  unfolding seek
+  seek_is f n g e = find_is (λ h. begins_with b (t h)) f n g e
 
-  pub seek_within : (n f : ℕ) → f + n ≡ 64 → seek t b f n ≤ 64
-  seek_within zero f e = omega (arith, seek_end f)
-  seek_within (suc n) f e =
-      ⊎_elim
-      (λ is. omega (arith, here_or_on f n true is))
-      (λ other. omega (arith, here_or_on f n false other, seek_within n (suc f) (omega arith)))
-      (cases_Bool (begins_with b (t f)))
-
-  pub seek_is : (n f : ℕ) → f + n ≡ 64 → seek t b f n < 64 → begins_with b (t (seek t b f n)) ≡ true
-  seek_is zero f e lt = let end = seek_end f in absurd (omega arith)
-  seek_is (suc n) f e lt =
-      ⊎_elim
-      (λ is. ap (λ g. begins_with b (t g)) (here_or_on f n true is) ∙ is)
-      (λ other. let on = here_or_on f n false other in ap (λ g. begins_with b (t g)) on ∙ seek_is n (suc f) (omega arith) (omega arith))
-      (cases_Bool (begins_with b (t f)))
-
-  pub seek_none : (n f : ℕ) → f + n ≡ 64 → (g : ℕ) → f ≤ g → g < seek t b f n → begins_with b (t g) ≡ true → ⊥
-  seek_none zero f e g low high begins = let end = seek_end f in omega arith
-  seek_none (suc n) f e g low high begins =
-      ⊎_elim
-      (λ is. let at = here_or_on f n true is in omega arith)
-      (λ other.
-      let on = here_or_on f n false other in
-      ⊎_elim (λ same. both_ways (begins_with b (t f)) other (ap (λ h. begins_with b (t h)) (sym same) ∙ begins)) (λ past. seek_none n (suc f) (omega arith) g (omega (arith, past)) (omega arith) begins) (cases_eq g f))
-      (cases_Bool (begins_with b (t f)))
+  pub seek_none : (f n : ℕ) → seek t b f n ≡ None → (h : ℕ) → f ≤ h → h < f + n → begins_with b (t h) ≡ true → ⊥
+  unfolding seek
+  seek_none f n e = find_none (λ h. begins_with b (t h)) f n e
 
   -- what is listed under a spelling that begins with the byte begins with it
   pub listed_begins : (p : Position) (s : List ℕ) (g : ℕ) → b ≡ get_or s 0 0 → Listed t p s g → begins_with b (t g) ≡ true
   listed_begins p s g first is = ap (begins_with b) is.has ∙ eq-eqb (get_or is.op.spelling 0 0) b (ap (λ (l : List ℕ). get_or l 0 0) is.spelt ∙ sym first)
 
 -- The places and links are right for the functions from i on.
-pub record ChainedFrom (t : Table) (firsts nexts : List ℕ) (i : ℕ) : Type 0 where
+pub record ChainedFrom (t : Table) (firsts nexts : List (Option ℕ)) (i : ℕ) : Type 0 where
   pub within : i ≤ 64
   pub bytes : length firsts ≡ 256
   pub functions : length nexts ≡ 64
-  pub first : (b : ℕ) → b < 256 → get_or firsts b 0 ≡ seek t b i (64 - i)
-  pub next : (f b : ℕ) → i ≤ f → f < 64 → begins_with b (t f) ≡ true → get_or nexts f 0 ≡ seek t b (f + 1) (63 - f)
+  pub first : (b : ℕ) → b < 256 → get_or firsts b None ≡ seek t b i (64 - i)
+  pub next : (f b : ℕ) → i ≤ f → f < 64 → begins_with b (t f) ≡ true → get_or nexts f None ≡ seek t b (f + 1) (63 - f)
 
-module _ (t : Table) (firsts nexts : List ℕ) (i : ℕ) (some : 0 < i) (h : ChainedFrom t firsts nexts i) where
-  one_back : (b : ℕ) (v : Bool) → begins_with b (t (i - 1)) ≡ v → seek t b (i - 1) (64 - (i - 1)) ≡ cond v (i - 1) (seek t b i (64 - i))
+module _ (t : Table) (firsts nexts : List (Option ℕ)) (i : ℕ) (some : 0 < i) (h : ChainedFrom t firsts nexts i) where
+  one_back : (b : ℕ) (v : Bool) → begins_with b (t (i - 1)) ≡ v → seek t b (i - 1) (64 - (i - 1)) ≡ cond v (Some (i - 1)) (seek t b i (64 - i))
   one_back b v e =
       let size : 64 - (i - 1) ≡ suc (64 - i) = omega (arith, h.within) in
-      let on : suc (i - 1) ≡ i = omega arith in
-      ap (seek t b (i - 1)) size ∙ here_or_on t b (i - 1) (64 - i) v e ∙ ap (λ j. cond v (i - 1) (seek t b j (64 - i))) on
+      let on : i - 1 + 1 ≡ i = omega arith in
+      ap (seek t b (i - 1)) size ∙ here_or_on t b (i - 1) (64 - i) v e ∙ ap (λ j. cond v (Some (i - 1)) (seek t b j (64 - i))) on
 
   -- an empty slot
   pub chained_past : t (i - 1) ≡ None → ChainedFrom t firsts nexts (i - 1)
@@ -83,19 +58,19 @@ module _ (t : Table) (firsts nexts : List ℕ) (i : ℕ) (some : 0 < i) (h : Cha
       }
 
   -- a slot whose operator begins with the byte c
-  pub chained_more : (o : Op) (c : ℕ) → t (i - 1) ≡ Some o → c ≡ get_or o.spelling 0 0 → c < 256 → ChainedFrom t (set firsts c (i - 1)) (set nexts (i - 1) (get_or firsts c 0)) (i - 1)
+  pub chained_more : (o : Op) (c : ℕ) → t (i - 1) ≡ Some o → c ≡ get_or o.spelling 0 0 → c < 256 → ChainedFrom t (set firsts c (Some (i - 1))) (set nexts (i - 1) (get_or firsts c None)) (i - 1)
   chained_more o c has first-is small =
       record {
         within = omega (arith, h.within);
-        bytes = length-set firsts c (i - 1) ∙ h.bytes;
-        functions = length-set nexts (i - 1) (get_or firsts c 0) ∙ h.functions;
+        bytes = length-set firsts c (Some (i - 1)) ∙ h.bytes;
+        functions = length-set nexts (i - 1) (get_or firsts c None) ∙ h.functions;
         first = λ b lt.
             ⊎_elim
             (λ same.
-            ap (λ j. get_or (set firsts c (i - 1)) j 0) same ∙ get_or-set_same firsts c (i - 1) 0 (omega (arith, h.bytes))
+            ap (λ j. get_or (set firsts c (Some (i - 1))) j None) same ∙ get_or-set_same firsts c (Some (i - 1)) None (omega (arith, h.bytes))
             ∙ sym (one_back b true (ap (begins_with b) has ∙ eq-eqb (get_or o.spelling 0 0) b (sym first-is ∙ sym same))))
             (λ other.
-            get_or-set_other firsts c b (i - 1) 0 other ∙ h.first b lt
+            get_or-set_other firsts c b (Some (i - 1)) None other ∙ h.first b lt
             ∙ sym (one_back b false (ap (begins_with b) has ∙ ne_eqb (get_or o.spelling 0 0) b (λ e. other (sym e ∙ sym first-is)))))
             (cases_eq b c);
         next = λ f b low high begins.
@@ -104,55 +79,62 @@ module _ (t : Table) (firsts nexts : List ℕ) (i : ℕ) (some : 0 < i) (h : Cha
             let byte : c ≡ b = first-is ∙ eqb-true (get_or o.spelling 0 0) b (sym (ap (λ g. begins_with b (t g)) same ∙ ap (begins_with b) has) ∙ begins) in
             let from : i ≡ f + 1 = omega arith in
             let size : 64 - i ≡ 63 - f = omega arith in
-            ap (λ j. get_or (set nexts (i - 1) (get_or firsts c 0)) j 0) same ∙ get_or-set_same nexts (i - 1) (get_or firsts c 0) 0 (omega (arith, h.functions, h.within))
+            ap (λ j. get_or (set nexts (i - 1) (get_or firsts c None)) j None) same ∙ get_or-set_same nexts (i - 1) (get_or firsts c None) None (omega (arith, h.functions, h.within))
             ∙ h.first c small ∙ (λ k. seek t (byte k) (from k) (size k)))
-            (λ other. get_or-set_other nexts (i - 1) f (get_or firsts c 0) 0 other ∙ h.next f b (omega (arith, other)) high begins)
+            (λ other. get_or-set_other nexts (i - 1) f (get_or firsts c None) None other ∙ h.next f b (omega (arith, other)) high begins)
             (cases_eq f (i - 1));
       }
 
 -- a search along the chain of a byte has come to `at`, and passed nothing that is listed
-pub record Along (t : Table) (p : Position) (s : List ℕ) (b at : ℕ) : Type 0 where
+pub record Along (t : Table) (p : Position) (s : List ℕ) (b : ℕ) (at : Option ℕ) : Type 0 where
   pub from : ℕ
   pub within : from ≤ 64
   pub is : at ≡ seek t b from (64 - from)
   pub passed : (g : ℕ) → g < from → Listed t p s g → ⊥
 
+-- how many functions there are from there on
+abbrev pub ahead : Option ℕ → ℕ
+ahead None = 0
+ahead (Some f) = 64 - f
+
 module _ (t : Table) (p : Position) (s : List ℕ) (b : ℕ) (first : b ≡ get_or s 0 0) where
-  pub along_start : (at : ℕ) → at ≡ seek t b 0 64 → Along t p s b at
+  pub along_start : (at : Option ℕ) → at ≡ seek t b 0 64 → Along t p s b at
   along_start at e = record { from = 0; within = omega arith; is = e; passed = λ g lt _. omega arith }
 
-  module _ (at : ℕ) (h : Along t p s b at) where
-    size : h.from + (64 - h.from) ≡ 64
-    size = omega (arith, h.within)
+  pub along_end : Along t p s b None → (g : ℕ) → g < 64 → Listed t p s g → ⊥
+  along_end h g lt is =
+      ⊎_elim
+      (λ low. h.passed g low is)
+      (λ high. seek_none t b h.from (64 - h.from) (sym h.is) g high (omega (arith, h.within)) (listed_begins t b p s g first is))
+      (cases_lt g h.from)
 
-    none_before : (g : ℕ) → g < at → Listed t p s g → ⊥
+  module _ (f : ℕ) (h : Along t p s b (Some f)) where
+    at_f : FirstFrom (λ g. begins_with b (t g)) h.from (64 - h.from) f
+    at_f = seek_is t b h.from (64 - h.from) f (sym h.is)
+
+    pub along_within : f < 64
+    along_within = omega (arith, h.within, at_f.high)
+
+    pub along_begins : begins_with b (t f) ≡ true
+    along_begins = at_f.is
+
+    none_before : (g : ℕ) → g < f → Listed t p s g → ⊥
     none_before g lt is =
-        ⊎_elim
-        (λ low. h.passed g low is)
-        (λ high. seek_none t b (64 - h.from) h.from size g high (omega (arith, h.is)) (listed_begins t b p s g first is))
-        (cases_lt g h.from)
+        ⊎_elim (λ low. h.passed g low is) (λ high. at_f.first g high lt (listed_begins t b p s g first is)) (cases_lt g h.from)
 
-    pub along_within : at ≤ 64
-    along_within = omega (arith, h.is, seek_within t b (64 - h.from) h.from size)
+    pub along_more : (Listed t p s f → ⊥) → (on : Option ℕ) → on ≡ seek t b (f + 1) (63 - f) → Along t p s b on
+    along_more not-here on e =
+        let left : 63 - f ≡ 64 - (f + 1) = omega arith in
+        record {
+          from = f + 1;
+          within = omega (arith, along_within);
+          is = e ∙ ap (seek t b (f + 1)) left;
+          passed = λ g below is. ⊎_elim (λ same. not-here (subst (Listed t p s) same is)) (λ other. none_before g (omega (arith, other)) is) (cases_eq g f);
+        }
 
-    pub along_end : 64 ≤ at → (g : ℕ) → g < 64 → Listed t p s g → ⊥
-    along_end end g lt is = none_before g (omega arith) is
-
-    pub along_begins : at < 64 → begins_with b (t at) ≡ true
-    along_begins lt = ap (λ g. begins_with b (t g)) h.is ∙ seek_is t b (64 - h.from) h.from size (omega (arith, h.is))
-
-    pub along_more : at < 64 → (Listed t p s at → ⊥) → (on : ℕ) → on ≡ seek t b (at + 1) (63 - at) → Along t p s b on × (at < on)
-    along_more lt not-here on e =
-        let left : 63 - at ≡ 64 - (at + 1) = omega arith in
-        let all : at + 1 + (63 - at) ≡ 64 = omega arith in (
-          record {
-            from = at + 1;
-            within = omega arith;
-            is = e ∙ ap (seek t b (at + 1)) left;
-            passed = λ g below is. ⊎_elim (λ same. not-here (subst (Listed t p s) same is)) (λ other. none_before g (omega (arith, other)) is) (cases_eq g at);
-          },
-          omega (arith, e, seek_from t b (63 - at) (at + 1) all),
-        )
+    pub along_less : (on : Option ℕ) → on ≡ seek t b (f + 1) (63 - f) → ahead on < 64 - f
+    along_less None e = omega (arith, along_within)
+    along_less (Some g) e = let next = seek_is t b (f + 1) (63 - f) g (sym e) in omega (arith, along_within, next.low, next.high)
 
 -- what begins with a byte is a function
 some_op : (b : ℕ) (o : Option Op) → begins_with b o ≡ true → (q : Op) × (o ≡ Some q)
@@ -162,7 +144,7 @@ some_op b (Some q) e = (q, refl)
 pub begins_inside : (t : Table) → LawfulTable t → (f b : ℕ) → begins_with b (t f) ≡ true → f < 64
 begins_inside t lawful f b e = let some = some_op b (t f) e in inside t lawful f some.0 some.1
 
-pub chained_none : (t : Table) → LawfulTable t → (firsts nexts : List ℕ) → length firsts ≡ 256 → length nexts ≡ 64 → ((b : ℕ) → b < 256 → get_or firsts b 0 ≡ 64) → ChainedFrom t firsts nexts 64
+pub chained_none : (t : Table) → LawfulTable t → (firsts nexts : List (Option ℕ)) → length firsts ≡ 256 → length nexts ≡ 64 → ((b : ℕ) → b < 256 → get_or firsts b None ≡ None) → ChainedFrom t firsts nexts 64
 chained_none t lawful firsts nexts bytes functions none =
     record {
       within = omega arith;
@@ -172,6 +154,6 @@ chained_none t lawful firsts nexts bytes functions none =
       next = λ f b low high begins. absurd (omega arith);
     }
 
-pub chained_all : (t : Table) → LawfulTable t → (firsts nexts : List ℕ) (i : ℕ) → i ≡ 0 → ChainedFrom t firsts nexts i → FirstsIn t firsts × NextsIn t nexts
+pub chained_all : (t : Table) → LawfulTable t → (firsts nexts : List (Option ℕ)) (i : ℕ) → i ≡ 0 → ChainedFrom t firsts nexts i → FirstsIn t firsts × NextsIn t nexts
 chained_all t lawful firsts nexts i start h =
     (λ b lt. h.first b lt ∙ (λ k. seek t b (start k) (64 - start k)), λ f b begins. h.next f b (omega arith) (begins_inside t lawful f b begins) begins)

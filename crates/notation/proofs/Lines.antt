@@ -1,10 +1,10 @@
 -- A line has its fields in one way only, and a number its value. Assumes nothing.
 use Rattle.std.proofs.Common.{◌≡◌, ℕ, ◌+◌, ◌-◌, ◌*◌, ◌^◌, ◌<◌, ◌≤◌, Bool, true, false, cond, not, eqb, leb, List, [], ◌∷◌, ◌++◌, length, get_or, take, drop, Some, Decides, Option, sym, refl, ap, ◌∙◌, subst, ⊎_elim, mul-le-mul_right, mul_assoc, pow-suc, add-one, arith}
 use native.Mathlib.Nat.{pow-le-pow_right}
-use Rattle.std.specs.List.{ContainsAt as Has, AllByRecursion}
+use Rattle.std.specs.List.{ContainsAt as Has, AllByRecursion, AllWithin, HoldsAt}
 use Rattle.std.specs.Str.{bytes_eq}
 use Rattle.std.proofs.ByRecursion.{All-from_get_or, all-has, has_get_or}
-use Rattle.std.proofs.lemmas.List.{take-append-drop, drop_more, take_rest, length_push, length-take-le}
+use Rattle.std.proofs.lemmas.List.{take-append-drop, drop_more, take_rest, length_push, length-take-le, get_or-take}
 use Rattle.std.proofs.lemmas.Bool.{both_ways, and_parts, cases_Bool, eqb-false, leb-true, not-true, not_from_false}
 use Rattle.tokens.specs.Bytes.{is_digit}
 use Rattle.notation.specs.declared.form.Form.{Form}
@@ -40,8 +40,8 @@ no_field_first text i lt is first x y f e =
     let empty = (same_split x [] y (drop (i + 1) text) f.spaceless tt (sym e ∙ at)).0 in
     omega (arith, f.some, ap length empty)
 
-pub no_field : (text : List ℕ) → Spaceless text → (x y : List ℕ) → text ≡ x ++ (32 ∷ y) → ⊥
-no_field text none x y e = no_space x y (subst Spaceless e none)
+pub no_field : (text : List ℕ) → AllWithin (λ b. b ≡ 32 → ⊥) text 0 (length text) → (x y : List ℕ) → text ≡ x ++ (32 ∷ y) → ⊥
+no_field text none x y e = no_space x y (subst Spaceless e (All-from_get_or (λ b. b ≡ 32 → ⊥) text 0 (λ i lt. none i 0 (omega arith) lt)))
 
 -- a field, by tests
 pub field_decides : (bytes : List ℕ) (has : Bool) → false ≡ eqb (length bytes) 0 → Decides has (Has bytes 32) → Decides (not has) (Field bytes)
@@ -56,12 +56,15 @@ field_decides bytes has some decides = (
 )
 
 -- a field ends at the first space, and the rest begins after it, as slices of the text
-pub field_at : (text : List ℕ) (i : ℕ) → i < length text → get_or text i 0 ≡ 32 → (i ≡ 0 → ⊥) → Spaceless (take i text) → Field (take (i - 0) text) × (text ≡ take (i - 0) text ++ (32 ∷ take (length text - (i + 1)) (drop (i + 1) text)))
-field_at text i lt is some none =
-    let all : i - 0 ≡ i = omega arith in
-    let size : length (take i text) ≡ i = length-take-le i text (omega arith) in
-    let field : Field (take i text) = record { some = omega (arith, size, some); spaceless = none } in
-    (subst (λ n. Field (take n text)) (sym all) field, split_at text i lt is ∙ λ k. take (sym all k) text ++ (32 ∷ sym (take_rest text (i + 1)) k))
+pub field_at : (text : List ℕ) (i : ℕ) → (i ≡ 0 → ⊥) → (i < length text) × HoldsAt (λ b. b ≡ 32) text i × AllWithin (λ b. b ≡ 32 → ⊥) text 0 i → Field (take i text) × (text ≡ take i text ++ (32 ∷ take (length text - (i + 1)) (drop (i + 1) text)))
+field_at text i some (lt, is, before) =
+    let size : length (take i text) ≡ i = length-take-le i text (omega arith) in (
+      record {
+        some = omega (arith, size, some);
+        spaceless = All-from_get_or (λ b. b ≡ 32 → ⊥) (take i text) 0 (λ k below. let within : k < i = omega arith in rw (get_or-take i text k 0 within) (before k 0 (omega arith) within));
+      },
+      split_at text i lt (is 0) ∙ λ k. take i text ++ (32 ∷ sym (take_rest text (i + 1)) k),
+    )
 
 -- the field that a text begins with, and the rest, in one way only
 pub one_field : (text f rest g more : List ℕ) → Field f → text ≡ f ++ (32 ∷ rest) → Field g → text ≡ g ++ (32 ∷ more) → (g ≡ f) × (more ≡ rest)

@@ -1,6 +1,9 @@
 -- What a line says: function, priority, type and spelling, parted by single spaces.
-use Rattle.std.specs.Prelude.{◌≡◌, ℕ, ◌+◌, ◌-◌, ◌*◌, ◌^◌, ◌≤◌, true, List, [], ◌∷◌, ◌++◌, length, codes, ◌≢◌}
+use Rattle.std.specs.Prelude.{◌≡◌, ℕ, ◌+◌, ◌-◌, ◌*◌, ◌^◌, ◌≤◌, true, List, [], ◌∷◌, ◌++◌, length, codes, ◌≢◌, Result, MatchResult}
 use Rattle.std.specs.List.{AllByRecursion}
+use denote.Ref.{Bor}
+use Rattle.tokens.specs.declared.fault.FaultKind.{FaultKind}
+use Rattle.tokens.specs.declared.fault.FaultKind.TheVariants.{UnknownType}
 use Rattle.tokens.specs.Bytes.{is_digit}
 use Rattle.notation.specs.declared.form.Form.{Form}
 use Rattle.notation.specs.declared.form.Form.TheVariants.{Fx, Fy, Xf, Yf, Xfx, Xfy, Yfx}
@@ -61,6 +64,10 @@ word_of Yf = codes "yf"
 word_of Xfx = codes "xfx"
 word_of Xfy = codes "xfy"
 word_of Yfx = codes "yfx"
+
+-- the result is the type that the word names, or the refusal of a word that names none
+abbrev pub Names : Bor (List ℕ) → Result Form FaultKind → Type 0
+Names word r = MatchResult r (λ m. word.now ≡ word_of m) (λ e. (e ≡ UnknownType) × ((m : Form) → word.now ≢ word_of m))
 
 -- the operator that a line declares, its word being that of the type
 abbrev pub said_op : Said → Form → Op

@@ -1,5 +1,6 @@
 -- What a notation means: for each function its operator, or none.
-use Rattle.std.specs.Prelude.{◌≡◌, ℕ, zero, suc, ◌<◌, ◌≤◌, Bool, true, false, cond, ◌&&◌, List, Some, None, Option, ◌≢◌, nat_lt}
+use Rattle.std.specs.Prelude.{◌≡◌, ℕ, ◌<◌, ◌≤◌, Bool, true, false, cond, ◌&&◌, List, Some, None, Option, ◌≢◌, nat_lt}
+use Rattle.std.specs.List.{find, range_with_len}
 use Rattle.std.specs.Str.{bytes_eq}
 use Rattle.notation.specs.declared.form.Position.{Position}
 use Rattle.notation.specs.declared.form.Position.TheVariants.{Before, After}
@@ -46,10 +47,6 @@ abbrev pub is_listed : Position → List ℕ → Option Op → Bool
 is_listed p s None = false
 is_listed p s (Some o) = same_position (position_of o.form) p && bytes_eq o.spelling s
 
--- the first of the n functions from f on that is so listed
-abbrev pub listed_from : Table → Position → List ℕ → ℕ → ℕ → Option ℕ
-listed_from t p s f zero = None
-listed_from t p s f (suc n) = cond (is_listed p s (t f)) (Some f) (listed_from t p s (suc f) n)
-
+-- the first that is so listed
 unfoldable pub listed : Table → Position → List ℕ → Option ℕ
-listed t p s = listed_from t p s 0 64
+listed t p s = find (λ f. is_listed p s (t f)) (range_with_len 0 64)

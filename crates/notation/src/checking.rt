@@ -27,10 +27,7 @@ fn fits(function: u16, form: Form) -> bool
 fn digit_first(word: &[u8]) -> bool
     ensures { Decides (not result) (NoDigitFirst word.now) }
 {
-    match word {
-        [first, ..] => first.is_ascii_digit(),
-        [] => false,
-    }
+    word.first().is_some_and(|byte| byte.is_ascii_digit())
 }
 
 // Whether the bytes are a spelling: one symbol, or one word that does not begin with a digit, and
@@ -63,7 +60,7 @@ pub(crate) fn check_operator(declaration: Declaration<'_>) -> Result<(), Fault>
             place: FUNCTION_FIELD,
         });
     }
-    if declaration.priority < MIN_PRIORITY || declaration.priority > MAX_PRIORITY {
+    if !(MIN_PRIORITY..=MAX_PRIORITY).contains(&declaration.priority) {
         return Err(Fault {
             kind: FaultKind::PriorityOutOfRange,
             place: PRIORITY_FIELD,

@@ -1,7 +1,6 @@
 // Declarations: a line of function, priority, type and spelling, parted by single spaces.
 ghost use Rattle.std.specs.Prelude.{◌≡◌, ℕ, List, ◌∷◌, ◌++◌, Decides, MatchOption, ◌≢◌};
-ghost use Rattle.notation.specs.declared.form.Form.{Form as TypeOf};
-ghost use Rattle.notation.specs.Lines.{Field, Fields, Parted, Number, word_of};
+ghost use Rattle.notation.specs.Lines.{Field, Fields, Parted, Number};
 ghost use Rattle.notation.specs.Declarations.{LineRules};
 ghost use Rattle.notation.specs.Views.{fields_of, DeclarationOf};
 
@@ -51,15 +50,11 @@ fn is_field(bytes: &[u8]) -> bool
 fn split_field(text: &[u8]) -> Option<(&[u8], &[u8])>
     ensures { MatchOption result ((x y : List ℕ) → Field x → text.now ≢ x ++ (32 ∷ y)) (λ x. Field x.0.now × (text.now ≡ x.0.now ++ (32 ∷ x.1.now))) }
 {
-    for (place, byte) in text.iter().enumerate() {
-        if *byte == b' ' {
-            if place == 0 {
-                return None;
-            }
-            return Some((&text[0..place], &text[place + 1..]));
-        }
+    let place = text.iter().position(|byte| *byte == b' ')?;
+    if place == 0 {
+        return None;
     }
-    None
+    Some((&text[..place], &text[place + 1..]))
 }
 
 // The four fields of the line, if it has four.
@@ -97,22 +92,6 @@ fn number_of(digits: &[u8]) -> Option<u16>
     Some(value)
 }
 
-// The type with this word.
-fn form_of(word: &[u8]) -> Option<Form>
-    ensures { MatchOption result ((m : TypeOf) → word.now ≢ word_of m) (λ m. word.now ≡ word_of m) }
-{
-    match word {
-        b"fx" => Some(Form::Fx),
-        b"fy" => Some(Form::Fy),
-        b"xf" => Some(Form::Xf),
-        b"yf" => Some(Form::Yf),
-        b"xfx" => Some(Form::Xfx),
-        b"xfy" => Some(Form::Xfy),
-        b"yfx" => Some(Form::Yfx),
-        _ => None,
-    }
-}
-
 // What the line declares. Refuses a line without four fields or with a number out of form, and a
 // type word that is none of the seven.
 pub(crate) fn read_declaration(line: &[u8]) -> Result<Declaration<'_>, Fault>
@@ -122,21 +101,13 @@ pub(crate) fn read_declaration(line: &[u8]) -> Result<Declaration<'_>, Fault>
         kind: FaultKind::MalformedDeclaration,
         place: WHOLE_LINE,
     };
-    let Some(fields) = fields_of(line) else {
-        return Err(malformed);
-    };
-    let Some(function) = number_of(fields.function) else {
-        return Err(malformed);
-    };
-    let Some(priority) = number_of(fields.priority) else {
-        return Err(malformed);
-    };
-    let Some(form) = form_of(fields.word) else {
-        return Err(Fault {
-            kind: FaultKind::UnknownType,
-            place: TYPE_FIELD,
-        });
-    };
+    let fields = fields_of(line).ok_or(malformed)?;
+    let function = number_of(fields.function).ok_or(malformed)?;
+    let priority = number_of(fields.priority).ok_or(malformed)?;
+    let form = Form::try_from(fields.word).map_err(|kind| Fault {
+        kind,
+        place: TYPE_FIELD,
+    })?;
     Ok(Declaration {
         function,
         priority,

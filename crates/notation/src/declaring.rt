@@ -46,10 +46,7 @@ impl OpenList {
             });
         }
         let position = declaration.form.position();
-        if self
-            .listed_from(0, position, declaration.spelling)
-            .is_some()
-        {
+        if self.listed(position, declaration.spelling).is_some() {
             return Err(Fault {
                 kind: FaultKind::SpellingTaken,
                 place: SPELLING_FIELD,

@@ -1,6 +1,9 @@
 // Types of operators, by the words of op/3: f is the operator, the letters beside it its operands.
 ghost use Rattle.std.specs.Prelude.{◌≡◌};
+ghost use Rattle.notation.specs.Lines.{Names};
 ghost use Rattle.notation.specs.Operators.{position_of, operands_of, left_side, right_side, limit};
+
+use tokens::FaultKind;
 
 // The seven type words.
 #[derive(Clone, Copy, PartialEq, Eq)]
@@ -26,6 +29,26 @@ pub enum Position {
 pub enum Side {
     X,
     Y,
+}
+
+impl TryFrom<&[u8]> for Form {
+    type Error = FaultKind;
+
+    ghost try_from_gives = { Names };
+
+    // The type with this word. Refuses a word that is none of the seven.
+    fn try_from(word: &[u8]) -> Result<Form, FaultKind> {
+        match word {
+            b"fx" => Ok(Form::Fx),
+            b"fy" => Ok(Form::Fy),
+            b"xf" => Ok(Form::Xf),
+            b"yf" => Ok(Form::Yf),
+            b"xfx" => Ok(Form::Xfx),
+            b"xfy" => Ok(Form::Xfy),
+            b"yfx" => Ok(Form::Yfx),
+            _ => Err(FaultKind::UnknownType),
+        }
+    }
 }
 
 impl Form {

@@ -1,5 +1,5 @@
 // Lists of declared operators: open, and then sealed.
-ghost use Rattle.std.specs.Prelude.{◌≡◌, ℕ, ◌+◌, ◌-◌, ◌<◌, true, slice_index};
+ghost use Rattle.std.specs.Prelude.{◌≡◌, ℕ, ◌+◌, ◌-◌, ◌<◌, true, None, slice_index_or};
 ghost use Rattle.notation.specs.Chains.{begins_with, seek};
 ghost use Rattle.notation.specs.Slots.{table_in};
 ghost use Rattle.notation.specs.Tables.{LawfulTable};
@@ -18,13 +18,13 @@ pub struct OpenList {
 }
 
 // A list of operators that does not change any more. For each byte `firsts` has the first function whose
-// spelling begins with it, and for each function `nexts` has the next one whose spelling begins as its own does;
-// 64 where there is none. So a spelling is compared only with those that begin as it does.
+// spelling begins with it, if there is one, and for each function `nexts` has the next one whose spelling begins as
+// its own does. So a spelling is compared only with those that begin as it does.
 #[derive(Drop)]
 pub struct SealedList {
     pub(crate) list: OpenList,
-    pub(crate) firsts: [u8; BYTES],
-    pub(crate) nexts: [u8; FUNCTIONS],
-    ghost first: { (b : ℕ) → b < 256 → slice_index firsts b ≡ seek (table_in list.slots) b 0 64 },
-    ghost next: { (f b : ℕ) → begins_with b (table_in list.slots f) ≡ true → slice_index nexts f ≡ seek (table_in list.slots) b (f + 1) (63 - f) },
+    pub(crate) firsts: [Option<u8>; BYTES],
+    pub(crate) nexts: [Option<u8>; FUNCTIONS],
+    ghost first: { (b : ℕ) → b < 256 → slice_index_or firsts b None ≡ seek (table_in list.slots) b 0 64 },
+    ghost next: { (f b : ℕ) → begins_with b (table_in list.slots f) ≡ true → slice_index_or nexts f None ≡ seek (table_in list.slots) b (f + 1) (63 - f) },
 }

@@ -14,8 +14,8 @@ use crate::slots::slot_lists;
 // The functions of a list by the first bytes of their spellings.
 #[derive(Clone, Copy)]
 struct Chains {
-    firsts: [u8; BYTES],
-    nexts: [u8; FUNCTIONS],
+    firsts: [Option<u8>; BYTES],
+    nexts: [Option<u8>; FUNCTIONS],
 }
 
 // Links the functions whose spellings begin with the same byte, from the last to the first.
@@ -23,13 +23,13 @@ fn link(list: &OpenList) -> Chains
     ensures firsts { FirstsIn (open_table list.now) result.firsts }
     ensures nexts { NextsIn (open_table list.now) result.nexts }
 {
-    let mut firsts = [FUNCTIONS as u8; BYTES];
-    let mut nexts = [FUNCTIONS as u8; FUNCTIONS];
+    let mut firsts = [None; BYTES];
+    let mut nexts = [None; FUNCTIONS];
     for function in (0..FUNCTIONS).rev() {
         if let Some(entry) = &list.slots[function] {
             let byte = usize::from(entry.bytes[0]);
             nexts[function] = firsts[byte];
-            firsts[byte] = function as u8;
+            firsts[byte] = Some(function as u8);
         }
     }
     Chains { firsts, nexts }
@@ -59,15 +59,14 @@ impl Notation for SealedList {
     }
 
     fn listed(&self, position: Position, spelling: &[u8]) -> Option<u8> {
-        let [first, ..] = spelling else {
-            return None;
-        };
-        let mut function = usize::from(self.firsts[usize::from(*first)]);
-        while function < FUNCTIONS {
-            if slot_lists(&self.list.slots[function], position, spelling) {
-                return Some(function as u8);
+        let first = spelling.first()?;
+        let mut next = self.firsts[usize::from(*first)];
+        while let Some(function) = next {
+            let slot = usize::from(function);
+            if slot_lists(&self.list.slots[slot], position, spelling) {
+                return Some(function);
             }
-            function = usize::from(self.nexts[function]);
+            next = self.nexts[slot];
         }
         None
     }

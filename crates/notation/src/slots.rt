@@ -64,10 +64,8 @@ impl Entry {
 pub(crate) fn slot_lists(slot: &Option<Entry>, position: Position, spelling: &[u8]) -> bool
     ensures { result ≡ is_listed position spelling.now (option_map op_in slot.now) }
 {
-    match slot {
-        Some(entry) => entry.is_listed(position, spelling),
-        None => false,
-    }
+    slot.as_ref()
+        .is_some_and(|entry| entry.is_listed(position, spelling))
 }
 
 // Whether the slot has an operator that mixes a level with the declared one.

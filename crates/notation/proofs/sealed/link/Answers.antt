@@ -10,7 +10,7 @@ use Rattle.notation.proofs.sealed.link.Goals as goal
 
 pub loop-function-init : goal.loop-function-init
 loop-function-init c =
-    chained_none (open_table c.args.list.now) (lawful_in _ c.args.list.now.lawful) (replicate 256 64) (replicate 64 64) refl refl (λ b lt. get_or-replicate 256 b 64 0 lt)
+    chained_none (open_table c.args.list.now) (lawful_in _ c.args.list.now.lawful) (replicate 256 None) (replicate 64 None) refl refl (λ b lt. get_or-replicate 256 b None None lt)
 
 pub loop-function-preserved : goal.loop-function-preserved
 loop-function-preserved c =

@@ -24,7 +24,7 @@ returns-then-is_some-2 c =
     let within : c.from.result < length list.slots = search rules in
     let slot = slot_test list.slots c.from.result f c.index-self-from.result within c.from.ensures in
     let place = ap (λ (p : Position). is_some (listed (open_table list) p o.spelling)) (sym c.position-position.ensures) in
-    table_taken (open_table list) f o (slot ∙ sym c.if-is_some.ensures) (place ∙ sym (ap is_some c.listed_from.ensures) ∙ sym c.if-is_some-2.ensures)
+    table_taken (open_table list) f o (slot ∙ sym c.if-is_some.ensures) (place ∙ sym (ap is_some c.listed.ensures) ∙ sym c.if-is_some-2.ensures)
 
 pub returns-then-mixes : goal.returns-then-mixes
 returns-then-mixes c =
@@ -34,7 +34,7 @@ returns-then-mixes c =
     let within : c.from.result < length list.slots = search rules in
     let slot = slot_test list.slots c.from.result f c.index-self-from.result within c.from.ensures in
     let place = ap (λ (p : Position). is_some (listed (open_table list) p o.spelling)) (sym c.position-position.ensures) in
-    let untaken = place ∙ sym (ap is_some c.listed_from.ensures) ∙ sym c.if-is_some-2.ensures in
+    let untaken = place ∙ sym (ap is_some c.listed.ensures) ∙ sym c.if-is_some-2.ensures in
     let it = c.if-mixes.ensures.0 refl in
     table_mixed (open_table list) f o (slot ∙ sym c.if-is_some.ensures) (lawful_in (open_table list) list.lawful) untaken it.0 it.1
 
@@ -46,5 +46,5 @@ returns c =
     let within : c.from.result < length list.slots = search rules in
     let slot = slot_test list.slots c.from.result f c.index-self-from.result within c.from.ensures in
     let place = ap (λ (p : Position). is_some (listed (open_table list) p o.spelling)) (sym c.position-position.ensures) in
-    let untaken = place ∙ sym (ap is_some c.listed_from.ensures) ∙ sym c.if-is_some-2.ensures in
+    let untaken = place ∙ sym (ap is_some c.listed.ensures) ∙ sym c.if-is_some-2.ensures in
     table_accepts (open_table list) f o (slot ∙ sym c.if-is_some.ensures) (lawful_in (open_table list) list.lawful) untaken (λ g it. false≢true (c.if-mixes.ensures.1 (g, it)))
