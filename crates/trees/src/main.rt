@@ -31,8 +31,8 @@ fn push_trees<N: Notation>(
     for line in expressions {
         let mut fill = Fill::new();
         match reader.read(rack.as_mut_slice(), &mut fill, line.bytes, notation) {
-            Ok(root) => {
-                push_tree(out, rack.as_slice(), root)?;
+            Ok(_) => {
+                push_tree(out, &rack.as_slice()[..fill.used()])?;
                 out.extend_from_slice(b"\n")?;
             }
             Err(fault) => push_fault_line(out, line.number, fault)?,
