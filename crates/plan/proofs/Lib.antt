@@ -1,6 +1,8 @@
+pub mod Fronts
 pub mod Outputs
 pub mod Parts
 pub mod Counts
+pub mod PlanAhead
 pub mod Reporting
 pub mod Sectioning
 pub mod Splits

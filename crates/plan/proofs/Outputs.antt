@@ -8,8 +8,6 @@ use Rattle.tokens.specs.Limits.{Limits, WithinLimits}
 use Rattle.tokens.specs.Spacing.{respaced, pairs_of}
 use Rattle.tokens.proofs.Checks.{limits_one, within_accepted}
 use Rattle.tokens.proofs.Spaces.{pairs_within}
-use Rattle.plan.specs.declared.outcome.Outcome.{Outcome}
-use Rattle.plan.specs.declared.outcome.Outcome.TheVariants.{Added, Refused}
 use Rattle.plan.specs.Plans.{begins_tail, up_to_tail, LineFault, ComesOut, Entry, bytes_of, ComesOutAs, EachComesOut, line_in, pairs_in, lines_added, pairs_added, PlanOutput, room_for}
 use Rattle.plan.specs.PlanLines.{IsPlanLine}
 use Rattle.plan.specs.Reports.{line_end, fault_line, tail_line}
@@ -35,17 +33,17 @@ one_fault line f g =
     err_same f g (limits_one es (Err f) (Err g) limit (subst (λ (l : List ℕ). Limits l (Err g)) same also))))
 
 module _ (number : ℕ) (line : List ℕ) where
-  one_way : (o q : Outcome) (bs cs : List ℕ) → ComesOut number line o bs → ComesOut number line q cs → ◌≡◌ {A = Entry} (record { outcome = o; bytes = bs }) (record { outcome = q; bytes = cs })
-  one_way (Added m) (Added n) bs cs (ds, es, is, within, pairs, bytes) (fs, gs, also, limits, more, others) =
+  one_way : (o q : Result ℕ Fault) (bs cs : List ℕ) → ComesOut number line o bs → ComesOut number line q cs → ◌≡◌ {A = Entry} (record { outcome = o; bytes = bs }) (record { outcome = q; bytes = cs })
+  one_way (Ok m) (Ok n) bs cs (ds, es, is, within, pairs, bytes) (fs, gs, also, limits, more, others) =
       let same = plan_line_one line ds es fs gs is also in
-      let outcome : Added m ≡ Added n = ap Added (pairs ∙ ap pairs_of same.1 ∙ sym more) in
+      let outcome : ◌≡◌ {A = Result ℕ Fault} (Ok m) (Ok n) = ap Ok (pairs ∙ ap pairs_of same.1 ∙ sym more) in
       let out : bs ≡ cs = bytes ∙ (λ i. same.0 i ++ (9 ∷ (respaced (same.1 i) ++ line_end))) ∙ sym others in
       λ i. record { outcome = outcome i; bytes = out i }
-  one_way (Added m) (Refused f) bs cs (ds, es, is, within, pairs, bytes) (fault, _) = absurd (not_refused line ds es f is within fault)
-  one_way (Refused f) (Added m) bs cs (fault, _) (ds, es, is, within, pairs, bytes) = absurd (not_refused line ds es f is within fault)
-  one_way (Refused f) (Refused g) bs cs (fault, bytes) (other, others) =
+  one_way (Ok m) (Err f) bs cs (ds, es, is, within, pairs, bytes) (fault, _) = absurd (not_refused line ds es f is within fault)
+  one_way (Err f) (Ok m) bs cs (fault, _) (ds, es, is, within, pairs, bytes) = absurd (not_refused line ds es f is within fault)
+  one_way (Err f) (Err g) bs cs (fault, bytes) (other, others) =
       let same = one_fault line f g fault other in
-      let outcome : Refused f ≡ Refused g = ap Refused same in
+      let outcome : ◌≡◌ {A = Result ℕ Fault} (Err f) (Err g) = ap Err same in
       let out : bs ≡ cs = bytes ∙ ap (fault_line number) same ∙ sym others in
       λ i. record { outcome = outcome i; bytes = out i }
 
@@ -89,13 +87,13 @@ pairs_more : (es : List Entry) (e : Entry) → pairs_added (es ++ e ∷ []) ≡ 
 pairs_more [] e = omega arith
 pairs_more (d ∷ es) e = omega (arith, pairs_more es e)
 
-pub one_line : (o : Outcome) → line_in o ≤ 1
-one_line (Added n) = omega arith
-one_line (Refused f) = omega arith
+pub one_line : (o : Result ℕ Fault) → line_in o ≤ 1
+one_line (Ok n) = omega arith
+one_line (Err f) = omega arith
 
-pub few_pairs : (number : ℕ) (line : List ℕ) (o : Outcome) (bytes : List ℕ) → ComesOut number line o bytes → pairs_in o ≤ 1024
-few_pairs number line (Added n) bytes (ds, es, is, within, pairs, _) = omega (arith, pairs_within es, within.tokens)
-few_pairs number line (Refused f) bytes h = omega arith
+pub few_pairs : (number : ℕ) (line : List ℕ) (o : Result ℕ Fault) (bytes : List ℕ) → ComesOut number line o bytes → pairs_in o ≤ 1024
+few_pairs number line (Ok n) bytes (ds, es, is, within, pairs, _) = omega (arith, pairs_within es, within.tokens)
+few_pairs number line (Err f) bytes h = omega arith
 
 pub room_some : (ls : List (List ℕ)) → 65 ≤ room_for ls
 room_some [] = omega arith
@@ -123,7 +121,7 @@ module _ (all : List (List ℕ)) (before : ℕ) (start : List ℕ) (cap : ℕ) w
 
   module _ (ahead : List (List ℕ)) (count : ℕ) (out : List ℕ) (lines pairs : ℕ) (h : Sofar all before start cap ahead count out lines pairs) where
     module _ (l : List ℕ) (rest : List (List ℕ)) (next : ahead ≡ l ∷ rest) where
-      pub sofar_more : (o : Outcome) (bytes : List ℕ) → ComesOut (count + 1) l o bytes → length bytes ≤ length l + 65
+      pub sofar_more : (o : Result ℕ Fault) (bytes : List ℕ) → ComesOut (count + 1) l o bytes → length bytes ≤ length l + 65
           → (count' : ℕ) (out' : List ℕ) (lines' pairs' : ℕ) → count' ≡ count + 1 → out' ≡ out ++ bytes → lines' ≡ lines + line_in o → pairs' ≡ pairs + pairs_in o
           → Sofar all before start cap rest count' out' lines' pairs'
       sofar_more o bytes comes short count' out' lines' pairs' count_is out-is lines-is pairs_is =

@@ -1,9 +1,12 @@
 -- A plan line has one way to be taken apart. Assumes nothing.
-use Rattle.std.proofs.Common.{◌≡◌, ℕ, ◌+◌, ◌<◌, ◌≤◌, List, [], ◌∷◌, ◌++◌, length, get_or, take, drop, sym, refl, ap, ◌∙◌, subst, arith}
-use Rattle.std.specs.List.{AllByRecursion}
-use Rattle.std.proofs.lemmas.List.{take-append-drop, length-take-le, drop_more, drop_all}
-use Rattle.std.proofs.lemmas.Bool.{false≢true}
+use Rattle.std.proofs.Common.{◌≡◌, ℕ, suc, ◌-◌, ◌≤◌, List, [], ◌∷◌, ◌++◌, length, get_or, take, drop, sym, refl, ap, ◌∙◌, subst, ⊎_elim, arith}
+use Rattle.std.specs.List.{AllByRecursion, prefix_len}
+use Rattle.std.proofs.lemmas.List.{take-append-drop, take_all, drop_more, drop_all}
+use Rattle.std.proofs.lemmas.List.Sums.{prefix_len_stops}
+use Rattle.std.proofs.lemmas.Bool.{cases_lt, false≢true}
+use Rattle.tokens.specs.Bytes.{is_digit}
 use Rattle.plan.specs.PlanLines.{Digit, IsPlanLine, NoPlanLine, DigitsEnd}
+use Rattle.plan.proofs.Fronts.{front_passes}
 
 head_same : (x y : ℕ) (xs ys : List ℕ) → x ∷ xs ≡ y ∷ ys → x ≡ y
 head_same x y xs ys e = cc
@@ -21,50 +24,47 @@ one_split (x ∷ a) b (y ∷ c) d p q r s e =
     let first = head_same x y (a ++ b) (c ++ d) e in
     (λ i. first i ∷ rest.0 i, rest.1)
 
-pub ends_at : (line : List ℕ) (r : ℕ) → r < length line → (Digit (get_or line r 0) → ⊥) → DigitsEnd (drop r line)
-ends_at line r lt h = subst DigitsEnd (sym (drop_more line r 0 lt)) h
-
-pub ends_past : (line : List ℕ) (r : ℕ) → length line ≤ r → DigitsEnd (drop r line)
-ends_past line r end = subst DigitsEnd (sym (drop_all r line end)) tt
+-- no digit comes after the first digits
+digits_end : (line : List ℕ) → DigitsEnd (drop (prefix_len is_digit line) line)
+digits_end line =
+    let n = prefix_len is_digit line in
+    ⊎_elim
+    (λ lt. subst DigitsEnd (sym (drop_more line n 0 lt)) (λ is. false≢true (sym (prefix_len_stops is_digit line 0 lt) ∙ is)))
+    (λ end. subst DigitsEnd (sym (drop_all n line end)) tt)
+    (cases_lt n (length line))
 
 tab_ends : (rest : List ℕ) → DigitsEnd (9 ∷ rest)
 tab_ends rest = λ e. false≢true e
 
-module _ (line : List ℕ) (r : ℕ) (within : r ≤ length line) (digits : AllByRecursion Digit (take r line)) (stops : DigitsEnd (drop r line)) where
+pub tab_first : (rest : List ℕ) → 1 ≤ length rest → get_or rest 0 0 ≡ 9 → rest ≡ 9 ∷ take (length rest - 1) (drop 1 rest)
+tab_first [] some tab = absurd (omega arith)
+tab_first (b ∷ bs) some tab = let same : b ∷ bs ≡ 9 ∷ bs = ap (λ n. n ∷ bs) tab in same ∙ ap (λ (l : List ℕ). 9 ∷ l) (sym (take_all (suc (length bs) - 1) bs (omega arith)))
+
+-- a line, parted where its first digits end
+module _ (line digits rest : List ℕ) (front : digits ≡ take (prefix_len is_digit line) line) (back : rest ≡ drop (prefix_len is_digit line) line) where
+  whole : digits ++ rest ≡ line
+  whole = (λ i. front i ++ back i) ∙ take-append-drop (prefix_len is_digit line) line
+
+  all : AllByRecursion Digit digits
+  all = subst (AllByRecursion Digit) (sym front) (front_passes is_digit line)
+
+  stops : DigitsEnd rest
+  stops = subst DigitsEnd (sym back) (digits_end line)
+
   -- a plan line's digits are those that the line begins with
-  parts : (ds es : List ℕ) → IsPlanLine line ds es → (ds ≡ take r line) × (9 ∷ es ≡ drop r line)
-  parts ds es h = one_split ds (9 ∷ es) (take r line) (drop r line) h.all (tab_ends es) digits stops (sym h.split ∙ sym (take-append-drop r line))
+  parts : (ds es : List ℕ) → IsPlanLine line ds es → (ds ≡ digits) × (9 ∷ es ≡ rest)
+  parts ds es h = one_split ds (9 ∷ es) digits rest h.all (tab_ends es) all stops (sym h.split ∙ sym whole)
 
-  count_is : (ds es : List ℕ) → IsPlanLine line ds es → length ds ≡ r
-  count_is ds es h = ap length (parts ds es h).0 ∙ length-take-le r line within
+  pub is_plan_line : (es : List ℕ) → rest ≡ 9 ∷ es → 1 ≤ length digits → length digits ≤ 8 → IsPlanLine line digits es
+  is_plan_line es e some few = record { split = sym whole ∙ ap (λ (l : List ℕ). digits ++ l) e; all = all; some = some; few = few }
 
-  pub none_without_digits : r ≡ 0 → NoPlanLine line
-  none_without_digits e ds es h = omega (arith, count_is ds es h, h.some)
+  pub only_plan_line : (es : List ℕ) → rest ≡ 9 ∷ es → (ds fs : List ℕ) → IsPlanLine line ds fs → (ds ≡ digits) × (fs ≡ es)
+  only_plan_line es e ds fs h = ((parts ds fs h).0, tail_same 9 9 fs es ((parts ds fs h).1 ∙ e))
 
-  pub none_with_many : 8 < r → NoPlanLine line
-  none_with_many lt ds es h = omega (arith, count_is ds es h, h.few)
-
-  pub none_to_the_end : r ≡ length line → NoPlanLine line
-  none_to_the_end e ds es h = omega (arith, ap length ((parts ds es h).1 ∙ drop_all r line (omega arith)))
-
-  module _ (inside : r < length line) where
-    rest_is : drop r line ≡ get_or line r 0 ∷ drop (r + 1) line
-    rest_is = drop_more line r 0 inside
-
-    pub none_without_tab : (get_or line r 0 ≡ 9 → ⊥) → NoPlanLine line
-    none_without_tab h ds es is = h (sym (head_same 9 (get_or line r 0) es (drop (r + 1) line) ((parts ds es is).1 ∙ rest_is)))
-
-    pub is_plan_line : 1 ≤ r → r ≤ 8 → get_or line r 0 ≡ 9 → IsPlanLine line (take r line) (drop (r + 1) line)
-    is_plan_line some few tab =
-        record {
-          split = sym (take-append-drop r line) ∙ ap (λ (l : List ℕ). take r line ++ l) (rest_is ∙ ap (λ n. n ∷ drop (r + 1) line) tab);
-          all = digits;
-          some = omega (arith, some, length-take-le r line within);
-          few = omega (arith, length-take-le r line within);
-        }
-
-    pub only_plan_line : (ds es : List ℕ) → IsPlanLine line ds es → (ds ≡ take r line) × (es ≡ drop (r + 1) line)
-    only_plan_line ds es h = ((parts ds es h).0, tail_same 9 (get_or line r 0) es (drop (r + 1) line) ((parts ds es h).1 ∙ rest_is))
+  pub no_plan_line : (1 ≤ length digits → length digits ≤ 8 → 1 ≤ length rest → get_or rest 0 0 ≡ 9 → ⊥) → NoPlanLine line
+  no_plan_line wrong ds es h =
+      let p = parts ds es h in
+      wrong (omega (arith, ap length p.0, h.some)) (omega (arith, ap length p.0, h.few)) (omega (arith, ap length p.1)) (sym (ap (λ (l : List ℕ). get_or l 0 0) p.1))
 
 -- a line is a plan line in one way
 pub plan_line_one : (line ds es fs gs : List ℕ) → IsPlanLine line ds es → IsPlanLine line fs gs → (ds ≡ fs) × (es ≡ gs)

@@ -1,5 +1,9 @@
 -- Notations read line by line: one step at a time, and with one answer.
-use Rattle.std.proofs.Common.{◌≡◌, ℕ, ◌+◌, ◌⊎◌, List, [], ◌∷◌, Ok, Err, codes, sym, refl, ap, ◌∙◌, subst, inl, inr, ⊎_elim, arith}
+use Rattle.std.proofs.Common.{◌≡◌, ℕ, ◌+◌, Bool, true, false, eqb, Decides, ◌⊎◌, List, [], ◌∷◌, Ok, Err, codes, sym, refl, ap, ◌∙◌, subst, inl, inr, ⊎_elim, arith}
+use Rattle.std.specs.Cmp.Lexicographic.{pointwise}
+use Rattle.std.proofs.lemmas.Bool.{false≢true}
+use Rattle.std.proofs.lemmas.Bool.Decides.{Decides-eqb}
+use Rattle.std.proofs.lemmas.Slice.Eq.{slice_eq-Decides}
 use Rattle.tokens.specs.declared.fault.Fault.{Fault}
 use Rattle.tokens.specs.InOrder.{If, Only}
 use Rattle.tokens.proofs.Firsts.{if_one}
@@ -10,6 +14,17 @@ use Rattle.notation.specs.Tables.{Table}
 use Rattle.notation.proofs.Lines.{word_one}
 use Rattle.notation.proofs.Rules.{declares_one}
 use Rattle.plan.specs.Sections.{section, Sectioned, fault_at_line, malformed, empty_table, Declarations, Notation}
+
+-- what `==` tells of a line and a word
+module _ (line word : List ℕ) (r : Bool) (told : r ≡ pointwise eqb line word) where
+  tells : Decides r (line ≡ word)
+  tells = slice_eq-Decides Decides-eqb line word r told
+
+  pub same_word : r ≡ true → line ≡ word
+  same_word e = tells.0 e
+
+  pub other_word : r ≡ false → line ≡ word → ⊥
+  other_word e is = false≢true (sym e ∙ tells.1 is)
 
 -- one line of declarations
 module _ (t : Table) (n : ℕ) (ls : List (List ℕ)) (l : List ℕ) (rest : List (List ℕ)) (next : ls ≡ l ∷ rest) where

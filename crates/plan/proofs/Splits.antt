@@ -1,9 +1,12 @@
 -- An input is split into its lines and into nothing else. Assumes nothing.
-use Rattle.std.proofs.Common.{◌≡◌, ℕ, ◌+◌, ◌-◌, ◌<◌, ◌≤◌, min, Bool, true, false, eqb, List, [], ◌∷◌, ◌++◌, length, get_or, take, drop, sym, refl, ap, ◌∙◌, subst, inl, inr, ⊎_elim, arith}
-use Rattle.std.specs.List.{AllByRecursion}
-use Rattle.std.proofs.lemmas.List.{take-append-drop, length-drop, drop-drop, drop_more, drop_all, take_all}
-use Rattle.std.proofs.lemmas.Bool.{cases_lt, ne_eqb, eqb-true, eqb-false}
-use Rattle.plan.specs.InputLines.{longer, before, lines_of, NoLineEnd, SplitInto, Lines, LineEnds}
+use Rattle.std.proofs.Common.{◌≡◌, ℕ, ◌+◌, ◌<◌, ◌≤◌, Bool, true, false, cond, not, ◌==◌, eqb, nat_lt, List, [], ◌∷◌, ◌++◌, length, get_or, take, drop, Some, None, Option, MatchOption, sym, refl, ap, ◌∙◌, subst, inl, inr, ⊎_elim, arith}
+use Rattle.std.specs.List.{AllByRecursion, position, position_or_len, before_first, after_first}
+use Rattle.std.proofs.ByRecursion.{All-weaker}
+use Rattle.std.proofs.lemmas.List.{take_all}
+use Rattle.std.proofs.lemmas.List.Sums.{prefix_len_stops, split_at_first}
+use Rattle.std.proofs.lemmas.Bool.{false≢true, ltb-true, ltb-false, ne_eqb, eqb-true, eqb-false}
+use Rattle.plan.specs.InputLines.{longer, before, lines_of, NoLineEnd, SplitInto, Lines}
+use Rattle.plan.proofs.Fronts.{front_passes}
 
 -- a line in front of its byte 10
 line_lines : (l rest : List ℕ) → AllByRecursion NoLineEnd l → lines_of (l ++ (10 ∷ rest)) ≡ l ∷ lines_of rest
@@ -51,40 +54,40 @@ split (b ∷ bs) = before_lines b bs (lines_of bs) (split bs) (eqb b 10) refl
 pub lines : (input : List ℕ) → Lines input (lines_of input)
 lines input = record { split = split input; only = λ ms h. only ms input h }
 
--- The next line of an input, from place a to place b.
-module _ (input : List ℕ) (a b : ℕ) (forward : a ≤ b) (within : b ≤ length input) (clear : AllByRecursion NoLineEnd (take (b - a) (drop a input))) where
-  parts : drop a input ≡ take (b - a) (drop a input) ++ drop b input
-  parts =
-      let e : a + (b - a) ≡ b = omega arith in
-      sym (ap (λ (l : List ℕ). take (b - a) (drop a input) ++ l) (ap (λ n. drop n input) (sym e) ∙ sym (drop-drop (b - a) a input)) ∙ take-append-drop (b - a) (drop a input))
+-- The first byte 10 ends the first line.
+abbrev ends_line : ℕ → Bool
+ends_line b = b == 10
 
-  ended_line : b < length input → LineEnds (drop b input) → lines_of (drop a input) ≡ take (b - a) (drop a input) ∷ lines_of (drop (b + 1) input)
-  ended_line lt stops =
-      let more = drop_more input b 0 lt in
-      let end : get_or input b 0 ≡ 10 = subst LineEnds more stops in
-      ap lines_of (parts ∙ ap (λ (l : List ℕ). take (b - a) (drop a input) ++ l) (more ∙ ap (λ n. n ∷ drop (b + 1) input) end))
-      ∙ line_lines (take (b - a) (drop a input)) (drop (b + 1) input) clear
+no_end : (b : ℕ) (v : Bool) → eqb b 10 ≡ v → not v ≡ true → NoLineEnd b
+no_end b true e h = absurd (false≢true h)
+no_end b false e h = eqb-false b 10 e
 
-  last_line : length input ≤ b → a < length input → lines_of (drop a input) ≡ take (b - a) (drop a input) ∷ lines_of (drop b input)
-  last_line end some =
-      let whole : take (b - a) (drop a input) ≡ drop a input = take_all (b - a) (drop a input) (omega (arith, length-drop a input)) in
-      let long : 0 < length (drop a input) = omega (arith, length-drop a input) in
-      let back : drop a input ≡ take (b - a) (drop a input) = sym whole in
-      let none : [] ≡ lines_of (drop b input) = sym (ap lines_of (drop_all b input end) ∙ no_lines) in
-      some_last (drop a input) long (subst (AllByRecursion NoLineEnd) whole clear) ∙ (λ i. back i ∷ none i)
+clear_front : (xs : List ℕ) → AllByRecursion NoLineEnd (before_first ends_line xs)
+clear_front xs = All-weaker (λ b. not (ends_line b) ≡ true) NoLineEnd (λ b h. no_end b (eqb b 10) refl h) (before_first ends_line xs) (front_passes (λ b. not (ends_line b)) xs)
 
-  pub next_line : LineEnds (drop b input) → a < length input → lines_of (drop a input) ≡ take (b - a) (drop a input) ∷ lines_of (drop (min (b + 1) (length input)) input)
-  next_line stops some =
-      ⊎_elim
-      (λ lt. let e : b + 1 ≡ min (b + 1) (length input) = omega arith in ended_line lt stops ∙ ap (λ n. take (b - a) (drop a input) ∷ lines_of (drop n input)) e)
-      (λ end. let e : b ≡ min (b + 1) (length input) = omega arith in last_line end some ∙ ap (λ n. take (b - a) (drop a input) ∷ lines_of (drop n input)) e)
-      (cases_lt b (length input))
+ended_line : (xs : List ℕ) → position_or_len ends_line xs < length xs → lines_of xs ≡ before_first ends_line xs ∷ lines_of (after_first ends_line xs)
+ended_line xs lt =
+    let n = position_or_len ends_line xs in
+    let end : get_or xs n 0 ≡ 10 = is_end (get_or xs n 0) (eqb (get_or xs n 0) 10) refl (prefix_len_stops (λ b. not (ends_line b)) xs 0 lt) in
+    ap lines_of (split_at_first ends_line xs 0 lt ∙ ap (λ b. before_first ends_line xs ++ (b ∷ after_first ends_line xs)) end) ∙ line_lines (before_first ends_line xs) (after_first ends_line xs) (clear_front xs)
+  where
+    is_end : (b : ℕ) (v : Bool) → eqb b 10 ≡ v → not v ≡ false → b ≡ 10
+    is_end b true e h = eqb-true b 10 e
+    is_end b false e h = absurd (false≢true (sym h))
 
-pub at_end : (input : List ℕ) (a : ℕ) → length input ≤ a → lines_of (drop a input) ≡ []
-at_end input a end = ap lines_of (drop_all a input end) ∙ no_lines
+last_line : (xs : List ℕ) → length xs ≤ position_or_len ends_line xs → 0 < length xs → lines_of xs ≡ xs ∷ lines_of []
+last_line xs end some =
+    some_last xs some (subst (AllByRecursion NoLineEnd) (take_all (position_or_len ends_line xs) xs end) (clear_front xs)) ∙ ap (λ (ls : List (List ℕ)). xs ∷ ls) (sym no_lines)
 
-pub ends_at : (input : List ℕ) (b : ℕ) → b < length input → get_or input b 0 ≡ 10 → LineEnds (drop b input)
-ends_at input b lt e = subst LineEnds (sym (drop_more input b 0 lt)) e
+pub first_line : (xs : List ℕ) → 0 < length xs → (r : Option ℕ) → r ≡ position ends_line xs
+    → MatchOption r (lines_of xs ≡ xs ∷ lines_of []) (λ e. lines_of xs ≡ take e xs ∷ lines_of (drop (e + 1) xs))
+first_line xs some r e = by_test (nat_lt (position_or_len ends_line xs) (length xs)) refl e
+  where
+    by_test : (v : Bool) → nat_lt (position_or_len ends_line xs) (length xs) ≡ v → r ≡ cond v (Some (position_or_len ends_line xs)) None
+        → MatchOption r (lines_of xs ≡ xs ∷ lines_of []) (λ k. lines_of xs ≡ take k xs ∷ lines_of (drop (k + 1) xs))
+    by_test true lt is = rw is (ended_line xs (ltb-true _ _ lt))
+    by_test false lt is = rw is (last_line xs (ltb-false _ _ lt) some)
 
-pub ends_past : (input : List ℕ) (b : ℕ) → length input ≤ b → LineEnds (drop b input)
-ends_past input b end = subst LineEnds (sym (drop_all b input end)) tt
+pub no_more : (xs : List ℕ) → length xs ≡ 0 → lines_of xs ≡ []
+no_more [] none = no_lines
+no_more (b ∷ bs) none = absurd (omega arith)

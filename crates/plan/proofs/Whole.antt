@@ -1,13 +1,12 @@
 -- The output of an input is fixed, and there is room for it.
-use Rattle.std.proofs.Common.{◌≡◌, ℕ, ◌+◌, ◌≤◌, ◌⊎◌, List, [], ◌∷◌, Ok, Err, sym, refl, ap, ◌∙◌, subst, ⊎_elim, arith}
+use Rattle.std.proofs.Common.{◌≡◌, ℕ, ◌+◌, ◌≤◌, List, [], ◌∷◌, Ok, Err, sym, ap, ◌∙◌, subst, ⊎_elim, arith}
 use Rattle.tokens.specs.InOrder.{Only}
 use Rattle.notation.specs.Tables.{Table}
 use Rattle.plan.specs.declared.input_fault.InputFault.{InputFault}
 use Rattle.plan.specs.Command.{Onward, AfterNotation, AfterBoth, Output}
 use Rattle.plan.specs.InputLines.{counted_lines}
-use Rattle.plan.specs.Plans.{up_to_tail, PlanOutput, room_for}
-use Rattle.plan.specs.Reports.{fault_line}
-use Rattle.plan.specs.Sections.{Section, Sectioned, Declarations, Notation}
+use Rattle.plan.specs.Plans.{up_to_tail, room_for}
+use Rattle.plan.specs.Sections.{Section, Sectioned, Declarations, Notation, TwoNotations}
 use Rattle.plan.proofs.Outputs.{plan_output_one, room_up_to}
 use Rattle.plan.proofs.Sectioning.{notation_one}
 
@@ -51,24 +50,21 @@ section_room (l ∷ ls) n s h =
     (λ (_, either). ⊎_elim (λ (_, more). omega (arith, list_room ls _ (n + 1) s more)) (λ (_, is). absurd (never s _ is)) either)
     h
 
+second_room : (ls : List (List ℕ)) (n : ℕ) (t : Section) → TwoNotations n ls (Ok t) → room_for t.rest ≤ room_for ls
+second_room ls n t (Ok s, first, second) = omega (arith, section_room s.rest s.count t second, section_room ls n s first)
+second_room ls n t (Err e, first, is) = absurd (never t e is)
+
 -- The command from the lines of its input, which are ls after n lines.
 module _ (input : List ℕ) (n : ℕ) (ls : List (List ℕ)) (all : ls ≡ counted_lines input) (none : n ≡ 0) where
   from_start : (r : Sectioned) → Notation n ls r → Notation 0 (counted_lines input) r
   from_start r h = subst (λ (k : List (List ℕ)). Notation 0 k r) all (subst (λ m. Notation m ls r) none h)
 
-  pub whole_plan : (s t : Section) → Notation n ls (Ok s) → Notation s.count s.rest (Ok t) → (rest : List (List ℕ)) (count : ℕ) → t.rest ≡ rest → t.count ≡ count → (out : List ℕ) → PlanOutput count (up_to_tail rest) out → Output input out
-  whole_plan s t first second rest count rest_is count_is out plan =
-      (Ok s, from_start (Ok s) first, (Ok t, second, subst (λ (k : List (List ℕ)). PlanOutput t.count (up_to_tail k) out) (sym rest_is) (subst (λ m. PlanOutput m (up_to_tail rest) out) (sym count_is) plan)))
+  pub whole : (r : Sectioned) → TwoNotations n ls r → (out : List ℕ) → Onward AfterBoth r out → Output input out
+  whole r (Ok s, first, second) out h = (Ok s, from_start (Ok s) first, (r, second, h))
+  whole r (Err e, first, is) out h = (Err e, from_start (Err e) first, subst (λ (x : Sectioned). Onward AfterBoth x out) is h)
 
-  pub whole_refused : (e : InputFault) → Notation n ls (Err e) ⊎ ((s : Section) × Notation n ls (Ok s) × Notation s.count s.rest (Err e)) → Output input (fault_line e.line e.fault)
-  whole_refused e =
-      ⊎_elim
-      (λ h. (Err e, from_start (Err e) h, refl))
-      (λ (s, first, second). (Ok s, from_start (Ok s) first, (Err e, second, refl)))
-
-  pub plan_room : (s t : Section) → Notation n ls (Ok s) → Notation s.count s.rest (Ok t) → (rest : List (List ℕ)) → t.rest ≡ rest → room_for (up_to_tail rest) ≤ room_for (counted_lines input)
-  plan_room s t first second rest rest_is =
-      omega (arith, room_up_to rest, ap room_for rest_is, section_room s.rest s.count t second, section_room ls n s first, ap room_for all)
+  pub plan_room : (t : Section) → TwoNotations n ls (Ok t) → room_for (up_to_tail t.rest) ≤ room_for (counted_lines input)
+  plan_room t h = omega (arith, room_up_to t.rest, second_room ls n t h, ap room_for all)
 
 pub less_room : (used small large cap : ℕ) → small ≤ large → used + large ≤ cap → used + small ≤ cap
 less_room used small large cap less enough = omega arith

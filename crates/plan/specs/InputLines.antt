@@ -33,8 +33,3 @@ pub record Lines (input : List ℕ) (ls : List (List ℕ)) : Type 0 where
 -- input after the first 99,999 lines counts as absent
 abbrev pub counted_lines : List ℕ → List (List ℕ)
 counted_lines input = take 99999 (lines_of input)
-
--- the bytes begin with a byte 10, or there are none
-abbrev pub LineEnds : List ℕ → Type 0
-LineEnds [] = Unit {0}
-LineEnds (b ∷ bs) = b ≡ 10

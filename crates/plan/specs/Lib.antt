@@ -1,10 +1,10 @@
 pub mod AnyNotations
+pub mod Appends
 pub mod Command
 pub mod InputLines
 pub mod LinesAhead
 pub mod NumberedAhead
 pub mod PlanLines
-pub mod PlanLinesAhead
 pub mod Plans
 pub mod Reports
 pub mod SectionViews

@@ -1,13 +1,11 @@
 -- What becomes of the lines of a plan, and of the whole plan.
-use Rattle.std.specs.Prelude.{◌≡◌, ℕ, ◌+◌, Bool, false, cond, ◌⊎◌, List, [], ◌∷◌, ◌++◌, length, Err, ◌==◌}
+use Rattle.std.specs.Prelude.{◌≡◌, ℕ, ◌+◌, Bool, false, cond, ◌⊎◌, List, [], ◌∷◌, ◌++◌, length, Ok, Err, Result, ◌==◌}
 use Rattle.std.specs.List.{flat_map}
 use Rattle.tokens.specs.declared.fault.Fault.{Fault}
 use Rattle.tokens.specs.declared.fault.FaultKind.TheVariants.{MalformedLine}
 use Rattle.tokens.specs.Faults.{fault}
 use Rattle.tokens.specs.Limits.{Limits, WithinLimits}
 use Rattle.tokens.specs.Spacing.{respaced, pairs_of}
-use Rattle.plan.specs.declared.outcome.Outcome.{Outcome}
-use Rattle.plan.specs.declared.outcome.Outcome.TheVariants.{Added, Refused}
 use Rattle.plan.specs.PlanLines.{IsPlanLine, NoPlanLine}
 use Rattle.plan.specs.Reports.{line_end, fault_line, tail_line}
 
@@ -19,12 +17,12 @@ LineFault line f =
 
 -- The line, with this number in the input, comes out as these bytes: its digits, a tab and its tokens by the
 -- spacing rule; or a fault line.
-abbrev pub ComesOut : ℕ → List ℕ → Outcome → List ℕ → Type 0
-ComesOut number line (Added pairs) bytes =
+abbrev pub ComesOut : ℕ → List ℕ → Result ℕ Fault → List ℕ → Type 0
+ComesOut number line (Ok pairs) bytes =
     (digits : List ℕ) × (expression : List ℕ)
     × IsPlanLine line digits expression × WithinLimits expression × (pairs ≡ pairs_of expression)
     × (bytes ≡ digits ++ (9 ∷ (respaced expression ++ line_end)))
-ComesOut number line (Refused f) bytes = LineFault line f × (bytes ≡ fault_line number f)
+ComesOut number line (Err f) bytes = LineFault line f × (bytes ≡ fault_line number f)
 
 -- the lines of the plan: up to one that begins with `#` (byte 35)
 abbrev pub begins_tail : List ℕ → Bool
@@ -37,7 +35,7 @@ up_to_tail (l ∷ ls) = cond (begins_tail l) [] (l ∷ up_to_tail ls)
 
 -- what became of a line, and the bytes that it came out as
 pub record Entry : Type 0 where
-  pub outcome : Outcome
+  pub outcome : Result ℕ Fault
   pub bytes : List ℕ
 
 abbrev pub bytes_of : Entry → List ℕ
@@ -53,13 +51,13 @@ EachComesOut number (l ∷ ls) [] = ⊥
 EachComesOut number (l ∷ ls) (e ∷ es) = ComesOutAs number l e × EachComesOut (number + 1) ls es
 
 -- the lines that were put out, and the pairs of brackets in them
-abbrev pub line_in : Outcome → ℕ
-line_in (Added pairs) = 1
-line_in (Refused f) = 0
+abbrev pub line_in : Result ℕ Fault → ℕ
+line_in (Ok pairs) = 1
+line_in (Err f) = 0
 
-abbrev pub pairs_in : Outcome → ℕ
-pairs_in (Added pairs) = pairs
-pairs_in (Refused f) = 0
+abbrev pub pairs_in : Result ℕ Fault → ℕ
+pairs_in (Ok pairs) = pairs
+pairs_in (Err f) = 0
 
 abbrev pub lines_added : List Entry → ℕ
 lines_added [] = 0

@@ -3,6 +3,7 @@ use Rattle.std.specs.Prelude.{Ok, Err, Result}
 use Rattle.notation.specs.declared.list.SealedList.{SealedList}
 use Rattle.notation.specs.Views.{sealed_table}
 use Rattle.plan.specs.declared.any_notation.AnyNotation.{AnyNotation}
+use Rattle.plan.specs.declared.command.Notations.{Notations}
 use Rattle.plan.specs.declared.input_fault.InputFault.{InputFault}
 use Rattle.plan.specs.declared.numbered_lines.NumberedLines.{NumberedLines}
 use Rattle.plan.specs.AnyNotations.{any_table}
@@ -17,3 +18,8 @@ list_read (Err e) lines = Err e
 abbrev pub notation_read : Result AnyNotation InputFault → NumberedLines → Sectioned
 notation_read (Ok n) lines = Ok (section (any_table n) (numbered_ahead lines) lines.count)
 notation_read (Err e) lines = Err e
+
+-- the second of the two notations
+abbrev pub second_read : Result Notations InputFault → NumberedLines → Sectioned
+second_read (Ok n) lines = Ok (section (any_table n.into) (numbered_ahead lines) lines.count)
+second_read (Err e) lines = Err e

@@ -48,3 +48,11 @@ Notation n (l ∷ ls) r =
     If (l ≡ codes "ladder") (λ s. s ≡ Ok (section ladder_table ls (n + 1)))
     (If (l ≡ codes "declared") (Declarations empty_table (n + 1) ls) (λ s. s ≡ Err (malformed (n + 1))))
     r
+
+-- Two notations, one after the other, after n lines of the input: what the second comes to, or the fault of the first.
+abbrev pub Second : Sectioned → Sectioned → Type 0
+Second (Ok s) r = Notation s.count s.rest r
+Second (Err e) r = r ≡ Err e
+
+abbrev pub TwoNotations : ℕ → List (List ℕ) → Sectioned → Type 0
+TwoNotations n ls r = (first : Sectioned) × Notation n ls first × Second first r

@@ -8,7 +8,7 @@ ghost use Rattle.notation.specs.Laws.{lawful_in};
 ghost use Rattle.notation.specs.RowsLemmas.{rows_lawful};
 ghost use Rattle.plan.specs.declared.any_notation.AnyNotation.TheVariants.{Ladder, Declared};
 
-use notation::{Ladder, Notation, Operator, SealedList};
+use notation::{Ladder, Notation, Operator, Position, SealedList};
 
 // The ladder, or a declared list.
 #[derive(Drop)]
@@ -33,17 +33,10 @@ impl Notation for AnyNotation {
         }
     }
 
-    fn before(&self, spelling: &[u8]) -> Option<u8> {
+    fn listed(&self, position: Position, spelling: &[u8]) -> Option<u8> {
         match self {
-            AnyNotation::Ladder(ladder) => ladder.before(spelling),
-            AnyNotation::Declared(list) => list.before(spelling),
-        }
-    }
-
-    fn after(&self, spelling: &[u8]) -> Option<u8> {
-        match self {
-            AnyNotation::Ladder(ladder) => ladder.after(spelling),
-            AnyNotation::Declared(list) => list.after(spelling),
+            AnyNotation::Ladder(ladder) => ladder.listed(position, spelling),
+            AnyNotation::Declared(list) => list.listed(position, spelling),
         }
     }
 }

@@ -3,20 +3,21 @@ ghost use Rattle.std.specs.Prelude.{◌≡◌, ℕ, ◌+◌, ◌<◌, ◌≤◌,
 ghost use Rattle.tokens.specs.InOrder.{Only};
 ghost use Rattle.tokens.specs.Limits.{WithinLimits};
 ghost use Rattle.tokens.specs.Spacing.{respaced, pairs_of};
+ghost use Rattle.plan.specs.Appends.{Appended, WithinRoom};
 ghost use Rattle.plan.specs.Command.{Output};
 ghost use Rattle.plan.specs.InputLines.{counted_lines};
 ghost use Rattle.plan.specs.NumberedAhead.{numbered_ahead};
-ghost use Rattle.plan.specs.Plans.{LineFault, ComesOut, ComesOutAs, up_to_tail, PlanOutput, room_for};
-ghost use Rattle.plan.specs.Sections.{Section, Notation};
+ghost use Rattle.plan.specs.Plans.{begins_tail, LineFault, ComesOut, ComesOutAs, up_to_tail, PlanOutput, room_for};
+ghost use Rattle.plan.specs.Sections.{TwoNotations};
+ghost use Rattle.plan.specs.SectionViews.{second_read};
 ghost use Rattle.plan.specs.PlanLines.{IsPlanLine};
 ghost use Rattle.plan.specs.Reports.{line_end};
 
 use crate::any_notation::AnyNotation;
 use crate::input_fault::InputFault;
-use crate::numbered_lines::NumberedLines;
+use crate::numbered_lines::{NumberedLine, NumberedLines};
 use crate::outcome::Outcome;
 use crate::plan_line::PlanLine;
-use crate::plan_lines::PlanLines;
 use crate::report::{push_fault_line, push_tail};
 use crate::sections::read_notation;
 use crate::tally::Tally;
@@ -35,11 +36,9 @@ fn check_line(line: &[u8]) -> Result<PlanLine<'_>, Fault>
 // Appends the digits, a tab, the expression by the spacing rule, and a line end; answers the pairs.
 fn push_plan_line(out: &mut Vec<u8>, line: PlanLine<'_>) -> Result<usize, AllocError>
     requires { (length line.digits.now ≤ 8) × (length line.expression.now ≤ 4096) }
-    ensures bytes { out.new.items ≡ (if is_ok result then out.old.items ++ (line.entry.digits.now ++ (9 ∷ (respaced line.entry.expression.now ++ line_end))) else out.old.items) }
+    ensures bytes { Appended (line.entry.digits.now ++ (9 ∷ (respaced line.entry.expression.now ++ line_end))) out.old out.new result }
     ensures pairs { IfOk result (λ n. n ≡ pairs_of line.entry.expression.now) }
-    ensures len { vec_len out.new ≤ vec_len out.old + (length line.entry.digits.now + length line.entry.expression.now + 2) }
-    ensures capacity { vec_capacity out.old ≤ vec_capacity out.new }
-    ensures succeeds { vec_len out.old + (length line.entry.digits.now + length line.entry.expression.now + 2) ≤ vec_capacity out.old → is_ok result ≡ true }
+    ensures room { WithinRoom (length line.entry.digits.now + length line.entry.expression.now + 2) out.old out.new result }
 {
     out.reserve(line.digits.len() + line.expression.len() + 2)?;
     // There is room for the whole line, so nothing below fails.
@@ -50,37 +49,43 @@ fn push_plan_line(out: &mut Vec<u8>, line: PlanLine<'_>) -> Result<usize, AllocE
     Ok(pairs)
 }
 
-// Appends what the line, with this number in the input, becomes: the line by the spacing rule, or a fault line.
+// Appends what the line of the input becomes: the line by the spacing rule, or a fault line.
 // Without the memory for it `out` stays as it is.
-pub fn translate_line(out: &mut Vec<u8>, number: usize, line: &[u8]) -> Result<Outcome, AllocError>
-    ensures answer { MatchResult result (λ o. (bytes : List ℕ) × (out.new.items ≡ out.old.items ++ bytes) × Only (ComesOutAs number line.now) (record { outcome = o; bytes = bytes })) (λ _. out.new.items ≡ out.old.items) }
-    ensures len { vec_len out.new ≤ vec_len out.old + (length line.now + 65) }
-    ensures capacity { vec_capacity out.old ≤ vec_capacity out.new }
-    ensures succeeds { vec_len out.old + (length line.now + 65) ≤ vec_capacity out.old → is_ok result ≡ true }
+pub fn translate_line(out: &mut Vec<u8>, line: NumberedLine<'_>) -> Result<Outcome, AllocError>
+    ensures answer { MatchResult result (λ o. (bytes : List ℕ) × (out.new.items ≡ out.old.items ++ bytes) × Only (ComesOutAs line.entry.number line.entry.bytes.now) (record { outcome = o; bytes = bytes })) (λ _. out.new.items ≡ out.old.items) }
+    ensures room { WithinRoom (length line.entry.bytes.now + 65) out.old out.new result }
 {
-    match check_line(line) {
-        Ok(plan_line) => {
-            let pairs = push_plan_line(out, plan_line)?;
-            Ok(Outcome::Added { pairs })
-        }
+    match check_line(line.bytes) {
+        Ok(plan_line) => Ok(Ok(push_plan_line(out, plan_line)?)),
         Err(fault) => {
-            push_fault_line(out, number, fault)?;
-            Ok(Outcome::Refused(fault))
+            let refused = InputFault {
+                line: line.number,
+                fault,
+            };
+            push_fault_line(out, refused)?;
+            Ok(Err(fault))
         }
     }
 }
 
-// Appends what each line of the plan becomes, and the tail.
+// Whether the line begins with `#`, as the tail of a plan does.
+fn begins_tail(line: &[u8]) -> bool
+    ensures { result ≡ begins_tail line.now }
+{
+    matches!(line, [b'#', ..])
+}
+
+// Appends what each line of the plan becomes, up to one that begins its tail, and then the tail of the output.
 fn translate_plan(out: &mut Vec<u8>, lines: NumberedLines<'_>) -> Result<(), AllocError>
     ensures answer { (added : List ℕ) × (out.new.items ≡ out.old.items ++ added) × OnOk result (PlanOutput lines.entry.count (up_to_tail (numbered_ahead lines.entry)) added) }
     ensures succeeds { vec_len out.old + room_for (up_to_tail (numbered_ahead lines.entry)) ≤ vec_capacity out.old → is_ok result ≡ true }
 {
-    let mut tally = Tally { lines: 0, pairs: 0 };
-    for line in PlanLines::new(lines) {
-        let outcome = translate_line(out, line.number, line.bytes)?;
+    let mut tally = Tally::default();
+    for line in lines.take_while(|line| !begins_tail(line.bytes)) {
+        let outcome = translate_line(out, line)?;
         tally.count(outcome);
     }
-    push_tail(out, tally.lines, tally.pairs)
+    push_tail(out, tally)
 }
 
 // The two notations that the input begins with.
@@ -92,7 +97,7 @@ struct Notations {
 
 // Reads the two notations, or tells the first line that may not stand there, and why.
 fn read_notations(lines: &mut NumberedLines<'_>) -> Result<Notations, InputFault>
-    ensures { MatchResult result (λ _. (s : Section) × Notation lines.old.count (numbered_ahead lines.old) (Ok s) × ((t : Section) × Notation s.count s.rest (Ok t) × (t.rest ≡ numbered_ahead lines.new) × (t.count ≡ lines.new.count))) (λ e. Notation lines.old.count (numbered_ahead lines.old) (Err e) ⊎ ((s : Section) × Notation lines.old.count (numbered_ahead lines.old) (Ok s) × Notation s.count s.rest (Err e))) }
+    ensures { TwoNotations lines.old.count (numbered_ahead lines.old) (second_read result lines.new) }
 {
     let from = read_notation(lines)?;
     let into = read_notation(lines)?;
@@ -107,7 +112,7 @@ fn translate_input(out: &mut Vec<u8>, input: &[u8]) -> Result<(), AllocError>
     let mut lines = NumberedLines::new(input);
     match read_notations(&mut lines) {
         Ok(_) => translate_plan(out, lines),
-        Err(refused) => push_fault_line(out, refused.line, refused.fault),
+        Err(refused) => push_fault_line(out, refused),
     }
 }
 

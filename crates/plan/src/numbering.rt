@@ -20,6 +20,7 @@ impl<'a> NumberedLines<'a> {
     }
 }
 
+// Not `enumerate` and `take`: the end of the input counts as one line more, so the count is asked for there too.
 impl<'a> Iterator for NumberedLines<'a> {
     type Item = NumberedLine<'a>;
 

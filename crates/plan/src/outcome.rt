@@ -2,8 +2,4 @@
 use tokens::Fault;
 
 // A line is put out, with its pairs of brackets, or refused.
-#[derive(Clone, Copy)]
-pub enum Outcome {
-    Added { pairs: usize },
-    Refused(Fault),
-}
+pub type Outcome = Result<usize, Fault>;

@@ -1,47 +1,37 @@
 // The lines that the command puts out beside plan lines: fault lines and the tail.
-ghost use Rattle.std.specs.Prelude.{◌≡◌, ◌+◌, ◌≤◌, true, ◌∷◌, ◌++◌, length, is_ok, if◌then◌else◌, vec_len, vec_capacity, decimal};
+ghost use Rattle.std.specs.Prelude.{◌≡◌, ◌+◌, ◌≤◌, ◌∷◌, ◌++◌, vec_len, vec_capacity, decimal};
+ghost use Rattle.plan.specs.Appends.{Appended, WithinRoom};
 ghost use Rattle.plan.specs.Reports.{fault_line, tail_line};
 
+use crate::input_fault::InputFault;
+use crate::tally::Tally;
+use itoa::Buffer;
 use std::alloc::AllocError;
-use tokens::Fault;
 
 // No fault line and no tail has more bytes.
 pub const MAX_REPORT_BYTES: usize = 65;
 
-// Appends the number in decimal, without leading zeros, where there is room for it.
-fn push_decimal(out: &mut Vec<u8>, number: usize)
-    requires { vec_len out.old + length (decimal number) ≤ vec_capacity out.old }
-    ensures bytes { out.new.items ≡ out.old.items ++ decimal number }
-    ensures capacity { vec_capacity out.new ≡ vec_capacity out.old }
-{
-    if number < 10 {
-        out.push_reserved(b'0' + number as u8);
-        return;
-    }
-    push_decimal(out, number / 10);
-    out.push_reserved(b'0' + (number % 10) as u8);
-}
-
-// Appends a byte and then a number.
+// Appends a byte and then a number, in decimal without leading zeros, where there is room for them.
 fn push_field(out: &mut Vec<u8>, lead: u8, number: usize)
     requires { vec_len out.old + 21 ≤ vec_capacity out.old }
     ensures bytes { out.new.items ≡ out.old.items ++ lead ∷ decimal number }
     ensures len { vec_len out.new ≤ vec_len out.old + 21 }
-    ensures capacity { vec_capacity out.new ≡ vec_capacity out.old }
+    ensures capacity { vec_capacity out.old ≤ vec_capacity out.new }
 {
+    let mut digits = Buffer::new();
     out.push_reserved(lead);
-    push_decimal(out, number);
+    // There is room for the digits, so this does not fail.
+    let _ = out.extend_from_slice(digits.format(number).as_bytes());
 }
 
-// Appends the fault line of the input line with this number. Without the memory for it `out` stays as it is.
-pub fn push_fault_line(out: &mut Vec<u8>, line: usize, fault: Fault) -> Result<(), AllocError>
-    ensures bytes { out.new.items ≡ (if is_ok result then out.old.items ++ fault_line line fault else out.old.items) }
-    ensures len { vec_len out.new ≤ vec_len out.old + 65 }
-    ensures capacity { vec_capacity out.old ≤ vec_capacity out.new }
-    ensures succeeds { vec_len out.old + 65 ≤ vec_capacity out.old → is_ok result ≡ true }
+// Appends the fault line of what was refused of the input. Without the memory for it `out` stays as it is.
+pub fn push_fault_line(out: &mut Vec<u8>, refused: InputFault) -> Result<(), AllocError>
+    ensures bytes { Appended (fault_line refused.line refused.fault) out.old out.new result }
+    ensures room { WithinRoom 65 out.old out.new result }
 {
     out.reserve(MAX_REPORT_BYTES)?;
     out.push_reserved(b'!');
+    let InputFault { line, fault } = refused;
     push_field(out, fault.kind.letter(), usize::from(fault.kind.number()));
     push_field(out, b' ', line);
     push_field(out, b' ', fault.place);
@@ -49,15 +39,14 @@ pub fn push_fault_line(out: &mut Vec<u8>, line: usize, fault: Fault) -> Result<(
     Ok(())
 }
 
-// Appends the tail of a plan of so many lines and pairs. Without the memory for it `out` stays as it is.
-pub fn push_tail(out: &mut Vec<u8>, lines: usize, pairs: usize) -> Result<(), AllocError>
-    ensures bytes { out.new.items ≡ (if is_ok result then out.old.items ++ tail_line lines pairs else out.old.items) }
-    ensures capacity { vec_capacity out.old ≤ vec_capacity out.new }
-    ensures succeeds { vec_len out.old + 65 ≤ vec_capacity out.old → is_ok result ≡ true }
+// Appends the tail of a plan that has come to so many lines and pairs. Without the memory for it `out` stays as it is.
+pub fn push_tail(out: &mut Vec<u8>, tally: Tally) -> Result<(), AllocError>
+    ensures bytes { Appended (tail_line tally.lines tally.pairs) out.old out.new result }
+    ensures room { WithinRoom 65 out.old out.new result }
 {
     out.reserve(MAX_REPORT_BYTES)?;
-    push_field(out, b'#', lines);
-    push_field(out, b' ', pairs);
+    push_field(out, b'#', tally.lines);
+    push_field(out, b' ', tally.pairs);
     out.push_reserved(b'\n');
     Ok(())
 }

@@ -13,12 +13,12 @@ use crate::numbered_lines::{NumberedLine, NumberedLines};
 use notation::{Ladder, OpenList, SealedList};
 use tokens::{Fault, FaultKind};
 
-// Whether the line is this word and nothing else.
-fn is_word(line: &[u8], word: &[u8]) -> bool
-    ensures { MatchBool result (line.now ≡ word.now) (line.now ≢ word.now) }
-{
-    line == word
-}
+// The lines that begin a notation, and the one that ends its declarations.
+const LADDER: &[u8] = b"ladder";
+
+const DECLARED: &[u8] = b"declared";
+
+const END: &[u8] = b"end";
 
 // The fault of a line that may not stand where a notation does.
 fn malformed_line(line: usize) -> InputFault
@@ -35,13 +35,10 @@ fn malformed_line(line: usize) -> InputFault
 fn declare_line(list: &mut OpenList, line: NumberedLine<'_>) -> Result<(), InputFault>
     ensures { MatchResult result (λ _. Declares (open_table list.old) line.entry.bytes.now (Ok tt) × Added (open_table list.old) line.entry.bytes.now (open_table list.new)) (λ e. (e.line ≡ line.entry.number) × Declares (open_table list.old) line.entry.bytes.now (Err e.fault)) }
 {
-    match list.declare(line.bytes) {
-        Ok(()) => Ok(()),
-        Err(fault) => Err(InputFault {
-            line: line.number,
-            fault,
-        }),
-    }
+    list.declare(line.bytes).map_err(|fault| InputFault {
+        line: line.number,
+        fault,
+    })
 }
 
 // Reads declarations up to `end`, and seals them.
@@ -49,8 +46,9 @@ fn read_declarations(lines: &mut NumberedLines<'_>) -> Result<SealedList, InputF
     ensures { Declarations empty_table lines.old.count (numbered_ahead lines.old) (list_read result lines.new) }
 {
     let mut list = OpenList::new();
+    // `while let`: after a `for` over `lines.by_ref()` the proof does not know what is left of `lines`.
     while let Some(line) = lines.next() {
-        if is_word(line.bytes, b"end") {
+        if line.bytes == END {
             return Ok(list.seal());
         }
         declare_line(&mut list, line)?;
@@ -65,10 +63,10 @@ pub fn read_notation(lines: &mut NumberedLines<'_>) -> Result<AnyNotation, Input
     let Some(line) = lines.next() else {
         return Err(malformed_line(lines.count + 1));
     };
-    if is_word(line.bytes, b"ladder") {
+    if line.bytes == LADDER {
         return Ok(AnyNotation::Ladder(Ladder));
     }
-    if is_word(line.bytes, b"declared") {
+    if line.bytes == DECLARED {
         return Ok(AnyNotation::Declared(read_declarations(lines)?));
     }
     Err(malformed_line(line.number))

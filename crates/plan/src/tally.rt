@@ -1,10 +1,11 @@
-// What a plan has come to: the lines put out, and the pairs of brackets in them.
+// What a plan has come to.
 ghost use Rattle.std.specs.Prelude.{◌≡◌, ◌+◌, ◌^◌, ◌<◌};
 ghost use Rattle.plan.specs.Plans.{line_in, pairs_in};
 
 use crate::outcome::Outcome;
 
-#[derive(Clone, Copy)]
+// The lines that were put out, and their pairs together.
+#[derive(Clone, Copy, Default)]
 pub struct Tally {
     pub lines: usize,
     pub pairs: usize,
@@ -18,7 +19,7 @@ impl Tally {
         ensures lines { self.new.lines ≡ self.old.lines + line_in outcome }
         ensures pairs { self.new.pairs ≡ self.old.pairs + pairs_in outcome }
     {
-        if let Outcome::Added { pairs } = outcome {
+        if let Ok(pairs) = outcome {
             self.lines += 1;
             self.pairs += pairs;
         }

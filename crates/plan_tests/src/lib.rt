@@ -8,62 +8,55 @@ mod tests {
     use std::test::Fail;
     use tokens::{Cutter, TokenKind, check_expression, needs_space};
 
-    // Runs the command on the input, and compares what it puts out; `case` is told if that differs.
-    fn check_output(
+    // Runs the command on each input, and compares what it puts out; a case that differs is told by its name.
+    fn check_outputs(
         rt: &(impl Abort + AllocGlobal),
-        input: &[u8],
-        output: &[u8],
-        case: &str,
+        cases: &[(&str, &[u8], &[u8])],
     ) -> Result<(), Fail> {
-        let mut out = Vec::new(rt.alloc());
-        translate(&mut out, input)?;
-        assert!(rt; out.as_slice() == output, "{case}");
+        for (case, input, output) in cases {
+            let mut out = Vec::new(rt.alloc());
+            translate(&mut out, input)?;
+            assert_eq!(rt; out.as_slice(), *output, "{case}");
+        }
         Ok(())
     }
 
     #[test]
     fn plans_at_their_ends(rt: HostRuntime) -> Result<(), Fail> {
-        check_output(&rt, b"ladder\nladder", b"#0 0\n", "no lines")?;
-        check_output(
-            &rt,
-            b"ladder\nladder\n\n",
-            b"!P40 3 0\n#0 0\n",
-            "an empty line",
-        )?;
-        check_output(
-            &rt,
-            b"ladder\nladder\n1\ta",
-            b"1\ta\n#1 0\n",
-            "no last line end",
-        )?;
-        check_output(&rt, b"ladder\nladder\n#", b"#0 0\n", "a tail at once")?;
-        check_output(
-            &rt,
-            b"declared\n0 900 fy not\nend\nladder\n201\t( a ) * b\n202\tc + \xff\n#9 9\n203\td\n",
-            b"201\t(a)*b\n!R21 6 4\n#1 1\n",
-            "lines behind the tail",
-        )
+        let cases: [(&str, &[u8], &[u8]); 5] = [
+            ("no lines", b"ladder\nladder", b"#0 0\n"),
+            ("an empty line", b"ladder\nladder\n\n", b"!P40 3 0\n#0 0\n"),
+            ("no last line end", b"ladder\nladder\n1\ta", b"1\ta\n#1 0\n"),
+            ("a tail at once", b"ladder\nladder\n#", b"#0 0\n"),
+            (
+                "lines behind the tail",
+                b"declared\n0 900 fy not\nend\nladder\n201\t( a ) * b\n202\tc + \xff\n#9 9\n203\td\n",
+                b"201\t(a)*b\n!R21 6 4\n#1 1\n",
+            ),
+        ];
+        check_outputs(&rt, &cases)
     }
 
     #[test]
     fn notations_that_are_refused(rt: HostRuntime) -> Result<(), Fail> {
-        check_output(&rt, b"", b"!D10 1 0\n", "no notation")?;
-        check_output(&rt, b"ladder\n", b"!D10 2 0\n", "one notation")?;
-        check_output(&rt, b"ladder\nLadder\n", b"!D10 2 0\n", "a capital")?;
-        check_output(&rt, b"ladder \n", b"!D10 1 0\n", "a space after the word")?;
-        check_output(&rt, b"declared\n", b"!D10 2 0\n", "no end")?;
-        check_output(
-            &rt,
-            b"declared\nend\ndeclared\n1 2\n",
-            b"!D10 4 0\n",
-            "two fields",
-        )?;
-        check_output(
-            &rt,
-            b"ladder\ndeclared\n32 400 yfx *\n33 400 xfy =>\nend\n1\ta\n",
-            b"!D17 4 2\n",
-            "sides that clash",
-        )
+        let cases: [(&str, &[u8], &[u8]); 7] = [
+            ("no notation", b"", b"!D10 1 0\n"),
+            ("one notation", b"ladder\n", b"!D10 2 0\n"),
+            ("a capital", b"ladder\nLadder\n", b"!D10 2 0\n"),
+            ("a space after the word", b"ladder \n", b"!D10 1 0\n"),
+            ("no end", b"declared\n", b"!D10 2 0\n"),
+            (
+                "two fields",
+                b"declared\nend\ndeclared\n1 2\n",
+                b"!D10 4 0\n",
+            ),
+            (
+                "sides that clash",
+                b"ladder\ndeclared\n32 400 yfx *\n33 400 xfy =>\nend\n1\ta\n",
+                b"!D17 4 2\n",
+            ),
+        ];
+        check_outputs(&rt, &cases)
     }
 
     #[test]
@@ -71,16 +64,16 @@ mod tests {
         let mut cutter = Cutter::new(b" ab+(1 <=");
         let word = cutter.next().ok_or("no word")?;
         assert!(rt; word.kind() == TokenKind::Word);
-        assert!(rt; word.place() == 1);
-        assert!(rt; word.bytes() == b"ab".as_slice());
+        assert_eq!(rt; word.place(), 1);
+        assert_eq!(rt; word.bytes(), b"ab".as_slice());
         let plus = cutter.next().ok_or("no symbol")?;
         assert!(rt; plus.kind() == TokenKind::Symbol);
         let open = cutter.next().ok_or("no bracket")?;
-        assert!(rt; open.place() == 4);
+        assert_eq!(rt; open.place(), 4);
         let number = cutter.next().ok_or("no number")?;
-        assert!(rt; number.bytes() == b"1".as_slice());
+        assert_eq!(rt; number.bytes(), b"1".as_slice());
         let at_most = cutter.next().ok_or("no last symbol")?;
-        assert!(rt; at_most.bytes() == b"<=".as_slice());
+        assert_eq!(rt; at_most.bytes(), b"<=".as_slice());
         assert!(rt; cutter.next().is_none());
         Ok(())
     }
@@ -88,11 +81,11 @@ mod tests {
     #[test]
     fn limits_and_spaces(rt: HostRuntime) -> Result<(), Fail> {
         assert!(rt; check_expression(b"a+b").is_ok());
-        let Err(fault) = check_expression(b"abcdefghijklmnopq") else {
-            return Err(Fail::new("a long word was accepted"));
-        };
-        assert!(rt; fault.kind.letter() == b'R');
-        assert!(rt; fault.kind.number() == 23);
+        let fault = check_expression(b"abcdefghijklmnopq")
+            .err()
+            .ok_or("a long word was accepted")?;
+        assert_eq!(rt; fault.kind.letter(), b'R');
+        assert_eq!(rt; fault.kind.number(), 23);
         assert!(rt; needs_space(TokenKind::Word, TokenKind::Word));
         assert!(rt; !needs_space(TokenKind::Word, TokenKind::Symbol));
         Ok(())

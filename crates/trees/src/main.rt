@@ -6,7 +6,7 @@ mod printing;
 
 use crate::printing::push_tree;
 use notation::Notation;
-use plan::{NumberedLines, push_fault_line, read_notation};
+use plan::{InputFault, NumberedLines, push_fault_line, read_notation};
 use rack::{Fill, Item, Node, RACK_NODES};
 use reading::Reader;
 use std::alloc::{AllocError, Global};
@@ -35,7 +35,13 @@ fn push_trees<N: Notation>(
                 push_tree(out, &rack.as_slice()[..fill.used()])?;
                 out.extend_from_slice(b"\n")?;
             }
-            Err(fault) => push_fault_line(out, line.number, fault)?,
+            Err(fault) => {
+                let refused = InputFault {
+                    line: line.number,
+                    fault,
+                };
+                push_fault_line(out, refused)?;
+            }
         }
     }
     Ok(())
@@ -48,7 +54,7 @@ fn main(rt: HostRuntime) -> io::Result<()> {
     let mut lines = NumberedLines::new(input.as_slice());
     match read_notation(&mut lines) {
         Ok(notation) => push_trees(rt.alloc(), &mut output, lines, &notation)?,
-        Err(refused) => push_fault_line(&mut output, refused.line, refused.fault)?,
+        Err(refused) => push_fault_line(&mut output, refused)?,
     }
     rt.stdout().write_all(output.as_slice())
 }

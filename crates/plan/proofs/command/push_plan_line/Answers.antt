@@ -42,7 +42,9 @@ returns c =
     record {
       bytes = c.push_reserved-2.ensures.items ∙ ap (λ (l : List ℕ). l ++ 10 ∷ []) p.bytes ∙ whole;
       pairs = c.in_ok-pairs.ensures.pairs;
-      len = omega (arith, p.len, c.push_reserved-2.ensures.len, respaced_fits c.args.line.expression.now);
-      capacity = omega (arith, p.capacity, c.reserve.ensures.capacity, c.push_reserved-2.ensures.capacity);
-      succeeds = λ _. refl;
+      room = record {
+        len = omega (arith, p.len, c.push_reserved-2.ensures.len, respaced_fits c.args.line.expression.now);
+        capacity = omega (arith, p.capacity, c.reserve.ensures.capacity, c.push_reserved-2.ensures.capacity);
+        succeeds = λ _. refl;
+      };
     }

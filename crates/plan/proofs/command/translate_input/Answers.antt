@@ -1,26 +1,21 @@
-use Rattle.std.proofs.Common.{◌≡◌, ℕ, cond, List, [], ◌++◌, is_ok, IfOk, Ok, Err, Result, sym, ◌∙◌, append-nil}
+use Rattle.std.proofs.Common.{◌≡◌, ℕ, cond, List, [], ◌++◌, is_ok, IfOk, Ok, Err, Result, sym, refl, ◌∙◌, append-nil}
 use Rattle.std.specs.declared.alloc.AllocError.{AllocError}
 use Rattle.std.proofs.lemmas.Result.{IfOk-weaker}
 use Rattle.plan.specs.Command.{Output}
 use Rattle.plan.specs.InputLines.{counted_lines}
-use Rattle.plan.specs.NumberedAhead.{numbered_ahead}
-use Rattle.plan.specs.Plans.{up_to_tail, PlanOutput}
 use Rattle.plan.specs.Reports.{fault_line}
 use Rattle.plan.proofs.Outputs.{room_some}
-use Rattle.plan.proofs.Whole.{whole_plan, whole_refused, plan_room, less_room}
+use Rattle.plan.proofs.Whole.{whole, plan_room, less_room}
 use Rattle.plan.proofs.command.translate_input.Goals as goal
 
 pub returns-in-Ok : goal.returns-in-Ok
 returns-in-Ok c =
     let input = c.args.input.now in
     let start = c.new-lines.ensures in
-    let lines = c.read_notations.new.lines in
-    let told = c.in-Ok.ensures in
     let plan = c.translate_plan.ensures.answer in
-    let out = whole_plan input _ _ start.ahead start.count told.0 told.2.0 told.1 told.2.1 (numbered_ahead lines) lines.count told.2.2 told.2.3 in
-    let room = plan_room input _ _ start.ahead start.count told.0 told.2.0 told.1 told.2.1 (numbered_ahead lines) told.2.2 in
+    let room = plan_room input _ _ start.ahead start.count _ c.in-Ok.ensures in
     record {
-      answer = (plan.0, plan.1, IfOk-weaker c.translate_plan.result (λ _. PlanOutput lines.count (up_to_tail (numbered_ahead lines)) plan.0) (λ _. Output input plan.0) (λ _ h. out plan.0 h) plan.2);
+      answer = (plan.0, plan.1, IfOk-weaker c.translate_plan.result _ (λ _. Output input plan.0) (λ _ h. whole input _ _ start.ahead start.count _ c.in-Ok.ensures plan.0 h) plan.2);
       succeeds = λ enough. c.translate_plan.ensures.succeeds (less_room _ _ _ _ room enough);
     }
 
@@ -35,6 +30,6 @@ returns-in-Err c =
     let start = c.new-lines.ensures in
     let e = c.in-Err.refused in
     record {
-      answer = after_fault (Output input) _ _ (fault_line e.line e.fault) c.push_fault_line.result (whole_refused input _ _ start.ahead start.count e c.in-Err.ensures) c.push_fault_line.ensures.bytes;
-      succeeds = λ enough. c.push_fault_line.ensures.succeeds (less_room _ 65 _ _ (room_some (counted_lines input)) enough);
+      answer = after_fault (Output input) _ _ (fault_line e.line e.fault) c.push_fault_line.result (whole input _ _ start.ahead start.count (Err e) c.in-Err.ensures _ refl) c.push_fault_line.ensures.bytes;
+      succeeds = λ enough. c.push_fault_line.ensures.room.succeeds (less_room _ 65 _ _ (room_some (counted_lines input)) enough);
     }

@@ -1,54 +1,63 @@
-use Rattle.std.proofs.Common.{◌≡◌, ℕ, ◌+◌, ◌≤◌, cond, List, ◌++◌, length, is_ok, IfOk, Ok, Err, vec_items, vec_len, vec_capacity, Result, sym, ap, ◌∙◌, subst, arith}
+use Rattle.std.proofs.Common.{◌≡◌, ℕ, ◌+◌, ◌≤◌, cond, List, [], ◌++◌, length, is_ok, IfOk, Ok, Err, Some, None, vec_items, vec_len, vec_capacity, Result, sym, ap, ◌∙◌, subst, arith, rules, tests}
 use Rattle.std.specs.declared.alloc.AllocError.{AllocError}
+use Rattle.std.specs.Iterator.Adapters.{take_while_source, take_while_done}
+use Rattle.std.proofs.iter.Serving.{serving}
 use Rattle.std.proofs.lemmas.List.{length-append}
 use Rattle.std.proofs.lemmas.Result.{err_from_is_err_and}
 use Rattle.std.proofs.lemmas.Bool.{false≢true}
 use Rattle.plan.specs.NumberedAhead.{numbered_ahead}
 use Rattle.plan.specs.Plans.{ComesOut, up_to_tail, PlanOutput, room_for}
-use Rattle.plan.specs.PlanLinesAhead.{plan_ahead, plan_count}
-use Rattle.plan.proofs.Outputs.{Sofar, sofar_none, sofar_more, sofar_end, line_room, tail_room, one_line, few_pairs}
+use Rattle.plan.proofs.Outputs.{sofar_none, sofar_more, sofar_end, line_room, tail_room, one_line, few_pairs}
+use Rattle.plan.proofs.PlanAhead.{plan_ahead, plan_count, NextLine, next_line}
 use Rattle.plan.proofs.command.translate_plan.Goals as goal
-use Rattle.plan.proofs.command.translate_plan.Goals.{In_ok-outcome}
+use Rattle.plan.proofs.command.translate_plan.Goals.{In-Some, In-None, In_ok-outcome, at-In_ok-outcome}
 
 pub loop-line-init : goal.loop-line-init
 loop-line-init c =
-    let is = c.into_iter-line-iterator.ensures.into_iter_gives in
-    let ahead = ap plan_ahead is ∙ c.new-line-items.ensures.ahead in
-    let none = ap plan_count is ∙ c.new-line-items.ensures.count in
     let all = up_to_tail (numbered_ahead c.args.lines) in
     let before = c.args.lines.count in
     let out = vec_items c.args.out.now in
-    let cap = vec_capacity c.args.out.now in (
+    let cap = vec_capacity c.args.out.now in
+    let items = c.take_while-line-items.ensures in
+    let source = ap take_while_source c.into_iter-line-iterator.ensures.into_iter_gives ∙ items.source in
+    let none = c.default-tally.ensures in (
+      search (rules, serving),
       tt,
-      tt,
-      subst (λ n. Sofar all before out cap (plan_ahead c.into_iter-line-iterator.result) n out 0 0) (sym none) (subst (λ (ls : List (List ℕ)). Sofar all before out cap ls before out 0 0) (sym ahead) (sofar_none all before out cap)),
+      ap take_while_done c.into_iter-line-iterator.ensures.into_iter_gives ∙ items.done,
+      rw source (rw (none.0, none.1) (sofar_none all before out cap)),
       omega arith,
     )
+
+-- what the iterator gives is the next line of the plan, or none where the plan ends
+stepped : (c : In-Some) → NextLine c.loop-line.line-iterator (Some c.in-Some.line) c.next.new.self
+stepped c = next_line _ (λ f x b q k. search (rules, tests)) c.loop-line.line-iterator c.next.new.self (Some c.in-Some.line) c.loop-line.invariant.2 c.in-Some.ensures.steps
 
 -- the line comes out with its number, one more than those before it
 came : (c : In_ok-outcome) → ComesOut (plan_count c.loop-line.line-iterator + 1) c.in-Some.line.bytes.now c.in_ok-outcome.outcome c.in_ok-outcome.ensures.answer.0
 came c =
-    subst (λ n. ComesOut n c.in-Some.line.bytes.now c.in_ok-outcome.outcome c.in_ok-outcome.ensures.answer.0) c.in-Some.ensures.steps.2 c.in_ok-outcome.ensures.answer.2.is
+    subst (λ n. ComesOut n c.in-Some.line.bytes.now c.in_ok-outcome.outcome c.in_ok-outcome.ensures.answer.0) (stepped (at-In_ok-outcome c).In-Some).2 c.in_ok-outcome.ensures.answer.2.is
 
 pub count-requires : goal.count-requires
 count-requires c =
-    let sofar = c.loop-line.invariant.2 in
+    let sofar = c.loop-line.invariant.3 in
+    let step = stepped (goal.at.count-requires c).In-Some in
     let o = c.in_ok-outcome.outcome in
     let pairs = few_pairs _ _ o _ (came (goal.at.count-requires c).In_ok-outcome) in
-    record { lines = omega (arith, sofar.few_lines, c.in-Some.ensures.steps.1, one_line o); pairs = omega (arith, sofar.few_pairs, c.in-Some.ensures.steps.1, pairs) }
+    record { lines = omega (arith, sofar.few_lines, step.1, one_line o); pairs = omega (arith, sofar.few_pairs, step.1, pairs) }
 
 pub loop-line-preserved : goal.loop-line-preserved
 loop-line-preserved c =
     let told = c.in_ok-outcome.ensures in
     let bytes = told.answer.0 in
-    let step = c.in-Some.ensures.steps in
+    let step = stepped (goal.at.loop-line-preserved c).In-Some in
     let out = c.loop-line.out in
-    let short : length bytes ≤ length c.in-Some.line.bytes.now + 65 = omega (arith, told.len, ap length told.answer.1, length-append (vec_items out) bytes, out.ok.0, c.translate_line.new.out.ok.0) in (
+    let short : length bytes ≤ length c.in-Some.line.bytes.now + 65 = omega (arith, told.room.len, ap length told.answer.1, length-append (vec_items out) bytes, out.ok.0, c.translate_line.new.out.ok.0) in (
+      search (rules, serving),
       tt,
-      tt,
-      sofar_more (up_to_tail (numbered_ahead c.args.lines)) c.args.lines.count (vec_items c.args.out.now) (vec_capacity c.args.out.now) (plan_ahead c.loop-line.line-iterator) (plan_count c.loop-line.line-iterator) (vec_items out) c.loop-line.tally.lines c.loop-line.tally.pairs c.loop-line.invariant.2 c.in-Some.line.bytes.now (plan_ahead c.next.new.self) step.0
+      step.4,
+      sofar_more (up_to_tail (numbered_ahead c.args.lines)) c.args.lines.count (vec_items c.args.out.now) (vec_capacity c.args.out.now) (plan_ahead c.loop-line.line-iterator) (plan_count c.loop-line.line-iterator) (vec_items out) c.loop-line.tally.lines c.loop-line.tally.pairs c.loop-line.invariant.3 c.in-Some.line.bytes.now (plan_ahead c.next.new.self) step.0
           c.in_ok-outcome.outcome bytes (came (goal.at.loop-line-preserved c).In_ok-outcome) short _ _ _ _ step.3 told.answer.1 c.count.ensures.lines c.count.ensures.pairs,
-      omega (arith, c.loop-line.invariant.3, told.capacity),
+      omega (arith, c.loop-line.invariant.4, told.room.capacity),
     )
 
 pub returns-in_err-outcome : goal.returns-in_err-outcome
@@ -56,10 +65,14 @@ returns-in_err-outcome c =
     let p = err_from_is_err_and c.from_residual.result c.from_residual.ensures.1 in
     let told = c.in_err-outcome.ensures in
     let inv = c.loop-line.invariant in
+    let step = stepped (goal.at.returns-in_err-outcome c).In-Some in
     let all = up_to_tail (numbered_ahead c.args.lines) in
     let fits : vec_len c.args.out.now + room_for all ≤ vec_capacity c.args.out.now → vec_len c.loop-line.out + (length c.in-Some.line.bytes.now + 65) ≤ vec_capacity c.loop-line.out =
-    λ room. subst (λ n. n + (length c.in-Some.line.bytes.now + 65) ≤ vec_capacity c.loop-line.out) (sym c.loop-line.out.ok.0) (line_room _ _ _ _ _ _ _ _ _ inv.2 _ _ c.in-Some.ensures.steps.0 (vec_capacity c.loop-line.out) (subst (λ n. n + room_for all ≤ vec_capacity c.args.out.now) c.args.out.now.ok.0 room) inv.3) in
-    rw p.1 (record { answer = (_, told.answer ∙ inv.2.bytes, tt); succeeds = λ room. absurd (false≢true (told.succeeds (fits room))) })
+    λ room. subst (λ n. n + (length c.in-Some.line.bytes.now + 65) ≤ vec_capacity c.loop-line.out) (sym c.loop-line.out.ok.0) (line_room _ _ _ _ _ _ _ _ _ inv.3 _ _ step.0 (vec_capacity c.loop-line.out) (subst (λ n. n + room_for all ≤ vec_capacity c.args.out.now) c.args.out.now.ok.0 room) inv.4) in
+    rw p.1 (record { answer = (_, told.answer ∙ inv.3.bytes, tt); succeeds = λ room. absurd (false≢true (told.room.succeeds (fits room))) })
+
+ended : (c : In-None) → plan_ahead c.loop-line.line-iterator ≡ []
+ended c = next_line _ (λ f x b q k. search (rules, tests)) c.loop-line.line-iterator c.next.new.self None c.loop-line.invariant.2 c.in-None.ensures.steps
 
 -- the tail is put, or memory was wanting and nothing is
 after_tail : (P : List ℕ → Type 0) (start out final tail : List ℕ) (r : Result (Unit {0}) AllocError) → ((added : List ℕ) × (out ≡ start ++ added)) → ((added : List ℕ) × (out ++ tail ≡ start ++ added) × P added) → final ≡ cond (is_ok r) (out ++ tail) out
@@ -70,11 +83,11 @@ after_tail P start out final tail (Err x) some all e = (some.0, e ∙ some.1, tt
 pub returns : goal.returns
 returns c =
     let inv = c.loop-line.invariant in
-    let end = c.in-None.ensures.steps in
+    let end = ended (goal.at.returns c).In-None in
     let all = up_to_tail (numbered_ahead c.args.lines) in
     let fits : vec_len c.args.out.now + room_for all ≤ vec_capacity c.args.out.now → vec_len c.loop-line.out + 65 ≤ vec_capacity c.loop-line.out =
-    λ room. subst (λ n. n + 65 ≤ vec_capacity c.loop-line.out) (sym c.loop-line.out.ok.0) (tail_room _ _ _ _ _ _ _ _ _ inv.2 end (vec_capacity c.loop-line.out) (subst (λ n. n + room_for all ≤ vec_capacity c.args.out.now) c.args.out.now.ok.0 room) inv.3) in
+    λ room. subst (λ n. n + 65 ≤ vec_capacity c.loop-line.out) (sym c.loop-line.out.ok.0) (tail_room _ _ _ _ _ _ _ _ _ inv.3 end (vec_capacity c.loop-line.out) (subst (λ n. n + room_for all ≤ vec_capacity c.args.out.now) c.args.out.now.ok.0 room) inv.4) in
     record {
-      answer = after_tail (PlanOutput c.args.lines.count all) _ _ _ _ _ (_, inv.2.bytes) (sofar_end _ _ _ _ _ _ _ _ _ inv.2 end) c.push_tail.ensures.bytes;
-      succeeds = λ room. c.push_tail.ensures.succeeds (fits room);
+      answer = after_tail (PlanOutput c.args.lines.count all) _ _ _ _ _ (_, inv.3.bytes) (sofar_end _ _ _ _ _ _ _ _ _ inv.3 end) c.push_tail.ensures.bytes;
+      succeeds = λ room. c.push_tail.ensures.room.succeeds (fits room);
     }

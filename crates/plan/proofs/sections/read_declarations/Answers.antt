@@ -5,7 +5,7 @@ use Rattle.notation.specs.Views.{open_table, sealed_table}
 use Rattle.plan.specs.declared.input_fault.InputFault.{InputFault}
 use Rattle.plan.specs.NumberedAhead.{numbered_ahead}
 use Rattle.plan.specs.Sections.{Declarations, section, fault_at_line, malformed, empty_table}
-use Rattle.plan.proofs.Sectioning.{list_ends, list_refused, list_goes_on, list_unended}
+use Rattle.plan.proofs.Sectioning.{same_word, other_word, list_ends, list_refused, list_goes_on, list_unended}
 use Rattle.plan.proofs.sections.read_declarations.Goals as goal
 
 pub loop-line-init : goal.loop-line-init
@@ -22,16 +22,16 @@ loop-line-preserved c =
       tt,
       λ r h.
           c.loop-line.invariant.2 r
-          (list_goes_on (open_table c.loop-line.list) lines.count (numbered_ahead lines) c.in-Some.line.bytes.now (numbered_ahead c.next.new.self) step.0 c.if-is_word.ensures (open_table c.declare_line.new.list) told.0 told.1 r
+          (list_goes_on (open_table c.loop-line.list) lines.count (numbered_ahead lines) c.in-Some.line.bytes.now (numbered_ahead c.next.new.self) step.0 (other_word _ _ _ c.eq.ensures c.if-eq.false) (open_table c.declare_line.new.list) told.0 told.1 r
           (subst (λ n. Declarations (open_table c.declare_line.new.list) n (numbered_ahead c.next.new.self) r) step.3 h)),
     )
 
-pub returns-then-is_word : goal.returns-then-is_word
-returns-then-is_word c =
+pub returns-then-eq : goal.returns-then-eq
+returns-then-eq c =
     let step = c.in-Some.ensures.steps in
     let lines = c.loop-line.lines in
     let rest = numbered_ahead c.next.new.self in
-    let ends = list_ends (open_table c.loop-line.list) lines.count (numbered_ahead lines) c.in-Some.line.bytes.now rest step.0 c.if-is_word.ensures in
+    let ends = list_ends (open_table c.loop-line.list) lines.count (numbered_ahead lines) c.in-Some.line.bytes.now rest step.0 (same_word _ _ _ c.eq.ensures c.if-eq.true) in
     let same : section (open_table c.loop-line.list) rest (lines.count + 1) ≡ section (sealed_table c.seal.result) rest c.next.new.self.count = λ i. section (sym c.seal.ensures i) rest (sym step.3 i) in
     c.loop-line.invariant.2 _ (subst (λ s. Declarations (open_table c.loop-line.list) lines.count (numbered_ahead lines) (Ok s)) same ends)
 
@@ -42,7 +42,7 @@ returns-in_err-declare_line c =
     let told = c.in_err-declare_line.ensures in
     let e = c.in_err-declare_line.field-0.0 in
     let lines = c.loop-line.lines in
-    let refused = list_refused (open_table c.loop-line.list) lines.count (numbered_ahead lines) c.in-Some.line.bytes.now (numbered_ahead c.next.new.self) step.0 c.if-is_word.ensures e.fault told.1 in
+    let refused = list_refused (open_table c.loop-line.list) lines.count (numbered_ahead lines) c.in-Some.line.bytes.now (numbered_ahead c.next.new.self) step.0 (other_word _ _ _ c.eq.ensures c.if-eq.false) e.fault told.1 in
     let same : fault_at_line (lines.count + 1) e.fault ≡ e = ap (λ n. fault_at_line n e.fault) (sym (told.0 ∙ step.2)) in
     rw (p.1, p.2) (c.loop-line.invariant.2 _ (subst (λ (x : InputFault). Declarations (open_table c.loop-line.list) lines.count (numbered_ahead lines) (Err x)) same refused))
 

@@ -1,39 +1,35 @@
-use Rattle.std.proofs.Common.{◌≡◌, ℕ, ◌+◌, ◌-◌, ◌<◌, List, length, take, drop, sym, refl, ap, ◌∙◌, subst, ⊎_elim, arith}
-use Rattle.std.proofs.lemmas.List.{take_rest}
-use Rattle.plan.specs.PlanLines.{IsPlanLine}
-use Rattle.plan.proofs.Parts.{none_without_digits, none_with_many, none_to_the_end, none_without_tab, is_plan_line, only_plan_line}
+use Rattle.std.proofs.Common.{◌≡◌, ◌<◌, ◌≤◌, length, get_or, take, drop, refl, ap, ◌∙◌, arith, rules}
+use Rattle.std.proofs.lemmas.List.Sums.{prefix_len-le-length}
+use Rattle.tokens.specs.Bytes.{is_digit}
+use Rattle.plan.proofs.Parts.{tab_first, is_plan_line, only_plan_line, no_plan_line}
 use Rattle.plan.proofs.plan_line.PlanLine.parse.Goals as goal
-use Rattle.plan.proofs.plan_line.PlanLine.parse.Goals.{then-not-is_digit_count-via-then-not-is_digit_count, then-not-is_digit_count-via-else-not-is_digit_count+then-count-line, then-not-is_digit_count-via-else-not-is_digit_count+else-count-line+then-line-count-ne9}
+use Rattle.plan.proofs.plan_line.PlanLine.parse.Goals.{in_default-via-then-rest-lt1, in_default-via-in-9+else-contains, in_default-via-else-rest-lt1+in_default-1}
 
-pub returns-then-not-is_digit_count : goal.returns-then-not-is_digit_count
-returns-then-not-is_digit_count c =
-    let line = c.args.line.now in
-    let n = c.leading_digits-count.result in
-    let d = c.leading_digits-count.ensures in
-    record {
-      answer = (
-        elim c.then-not-is_digit_count.branch [
-          | then-not-is_digit_count-via-then-not-is_digit_count w ↦ ⊎_elim (none_without_digits line n d.within d.digits d.stops) (none_with_many line n d.within d.digits d.stops) w.if-not-is_digit_count.ensures
-          | then-not-is_digit_count-via-else-not-is_digit_count+then-count-line w ↦ none_to_the_end line n d.within d.digits d.stops w.if-count-line.true
-          | then-not-is_digit_count-via-else-not-is_digit_count+else-count-line+then-line-count-ne9 w ↦
-              none_without_tab line n d.within d.digits d.stops (omega (arith, d.within, w.if-count-line.false)) w.if-line-count-ne9.true
-        ],
-        refl,
-      );
-      only = tt;
-    }
+pub split_at-requires : goal.split_at-requires
+split_at-requires c = omega (arith, c.leading_digits.ensures, prefix_len-le-length is_digit c.args.line.now)
 
-pub returns : goal.returns
-returns c =
-    let line = c.args.line.now in
-    let n = c.leading_digits-count.result in
-    let d = c.leading_digits-count.ensures in
-    let inside : n < length line = omega (arith, d.within, c.if-count-line.false) in
-    let whole : n ≡ n - 0 = omega arith in
-    let front : take n line ≡ take (n - 0) line = ap (λ k. take k line) whole in
-    let rest : drop (n + 1) line ≡ take (length line - (n + 1)) (drop (n + 1) line) = sym (take_rest line (n + 1)) in
-    let is = is_plan_line line n d.within d.digits d.stops inside c.if-not-is_digit_count.ensures.0 c.if-not-is_digit_count.ensures.1 c.if-line-count-ne9.false in
-    record {
-      answer = subst (λ (ds : List ℕ). IsPlanLine line ds (take (length line - (n + 1)) (drop (n + 1) line))) front (subst (IsPlanLine line (take n line)) rest is);
-      only = λ ds es h. let one = only_plan_line line n d.within d.digits d.stops inside ds es h in (one.0 ∙ front, one.1 ∙ rest);
-    }
+pub returns-in-9 : goal.returns-in-9
+returns-in-9 c =
+    let digits = c.split_at.result.0.now in
+    let rest = c.split_at.result.1.now in
+    let front = c.split_at.ensures.front ∙ ap (λ n. take n c.args.line.now) c.leading_digits.ensures in
+    let back = c.split_at.ensures.back ∙ ap (λ n. drop n c.args.line.now) c.leading_digits.ensures in
+    let tab : get_or rest 0 0 ≡ 9 = search rules in
+    let some : 1 ≤ length digits = search rules in
+    let few : length digits ≤ 8 = search rules in
+    let e = tab_first rest c.in-9.len_at_least tab in
+    record { answer = is_plan_line c.args.line.now digits rest front back _ e some few; only = only_plan_line c.args.line.now digits rest front back _ e }
+
+pub returns-in_default-clause-answer : goal.returns-in_default-clause-answer
+returns-in_default-clause-answer c =
+    let digits = c.split_at.result.0.now in
+    let rest = c.split_at.result.1.now in
+    let front = c.split_at.ensures.front ∙ ap (λ n. take n c.args.line.now) c.leading_digits.ensures in
+    let back = c.split_at.ensures.back ∙ ap (λ n. drop n c.args.line.now) c.leading_digits.ensures in
+    let wrong : 1 ≤ length digits → length digits ≤ 8 → 1 ≤ length rest → get_or rest 0 0 ≡ 9 → ⊥ =
+    elim c.in_default.branch [
+      | in_default-via-then-rest-lt1 w ↦ (let none : length rest < 1 = search rules in λ _ _ some _. omega arith)
+      | in_default-via-in-9+else-contains w ↦ (let many : 1 ≤ length digits → length digits ≤ 8 → ⊥ = search rules in λ some few _ _. many some few)
+      | in_default-via-else-rest-lt1+in_default-1 w ↦ (let other : get_or rest 0 0 ≡ 9 → ⊥ = search rules in λ _ _ _ tab. other tab)
+    ] in
+    (no_plan_line c.args.line.now digits rest front back wrong, refl)
