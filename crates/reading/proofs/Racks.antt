@@ -2,7 +2,7 @@
 -- before. Assumes nothing.
 use Rattle.std.proofs.Common.{◌≡◌, ℕ, ◌+◌, ◌<◌, ◌≤◌, Bool, true, false, cond, ltb, ◌≢◌, List, [], ◌∷◌, ◌++◌, length, get_or, set, sym, refl, ap, ◌∙◌, ⊎_elim, arith}
 use Rattle.std.proofs.lemmas.List.{length-append, length_push, length-set, get_or-set_same, get_or-set_other, get_or_append_left, get_or_push}
-use Rattle.std.proofs.lemmas.Bool.{cases_lt, ltb-true, ltb-false}
+use Rattle.std.proofs.lemmas.Bool.{cases_lt, ltb-true, ltb-false, lt-ltb, le-ltb}
 use Rattle.grammar.specs.Trees.{Tree}
 use Rattle.grammar.specs.Trees.Tree.{name, one, two}
 use Rattle.rack.specs.declared.node.Node.{Node}
@@ -35,6 +35,12 @@ pub nothing_changed : (n : ℕ) (rack : List Node) → SameOutside n rack rack
 nothing_changed n rack = record { below = record { long = refl; same = λ i d h. refl }; beyond = λ i d h. refl }
 
 module _ (rack : List Node) (n : ℕ) (node : Node) where
+  pub stored_here : n < room rack → stored rack n node ≡ set rack n node
+  stored_here lt = ap (λ (b : Bool). cond b (set rack n node) rack) (lt-ltb n (room rack) lt)
+
+  pub stored_nowhere : room rack ≤ n → stored rack n node ≡ rack
+  stored_nowhere le = ap (λ (b : Bool). cond b (set rack n node) rack) (le-ltb n (room rack) le)
+
   set_outside : n < room rack → SameOutside n rack (set rack n node)
   set_outside lt =
       record {

@@ -1,5 +1,5 @@
 -- What the loop over the tokens keeps, and what it comes to.
-use Rattle.std.proofs.Common.{◌≡◌, ℕ, ◌+◌, ◌^◌, ◌<◌, ◌≤◌, List, [], ◌∷◌, ◌++◌, map, length, Some, None, Err, Option, sym, refl, ap, ◌∙◌, subst, append_assoc, append-nil, arith}
+use Rattle.std.proofs.Common.{◌≡◌, ℕ, ◌+◌, ◌<◌, ◌≤◌, List, [], ◌∷◌, ◌++◌, map, length, Some, None, Ok, Err, Option, Result, sym, refl, ap, ◌∙◌, subst, append_assoc, append-nil, arith}
 use Rattle.std.specs.List.{AllByRecursion}
 use Rattle.std.proofs.lemmas.List.{length-append, length-map, map_push}
 use Rattle.tokens.specs.Faults.{fault}
@@ -20,7 +20,6 @@ use Rattle.grammar.proofs.Judging.{found_reads}
 use Rattle.grammar.proofs.Told.{answered_at, answered_at_end}
 use Rattle.rack.specs.declared.node.Node.{Node}
 use Rattle.rack.specs.Nodes.{nodes_of}
-use Rattle.reading.specs.declared.reader.Pending.{Pending}
 use Rattle.reading.specs.Outside.{SameOutside}
 use Rattle.reading.specs.Yard.{Site, site, Yard, finished, step, run}
 use Rattle.reading.specs.Yard.Yard.{stands, refused}
@@ -33,7 +32,7 @@ module _ (old : List Node) (mark : ℕ) where
   unrefused : (st : State) (y : Yard) (d : Due) (s : Site) → Shows old mark st y → y ≡ stands d s → st ≡ M.refused → ⊥
   unrefused (operand_due k) y d s h e r = let z : ◌≡◌ {A = ℕ} 0 1 = cc in omega arith
   unrefused (operator_due k b) y d s h e r = let z : ◌≡◌ {A = ℕ} 0 1 = cc in omega arith
-  unrefused M.refused y d s h e r = let z : ◌≡◌ {A = ℕ} 0 1 = cc in omega arith
+  unrefused M.refused y d s (rack, f, h) e r = let z : ◌≡◌ {A = ℕ} 0 1 = cc in omega arith
 
   tells : (st : State) (y : Yard) (d : Due) (s : Site) → Shows old mark st y → y ≡ stands d s → Tells st d
   tells (operand_due k) y d s (rack, n, f, h) e = cc
@@ -43,16 +42,17 @@ module _ (old : List Node) (mark : ℕ) where
   outside : (st : State) (y : Yard) (d : Due) (s : Site) → Shows old mark st y → y ≡ stands d s → SameOutside mark old s.rack
   outside (operand_due k) y d s (rack, n, f, h) e = let same : rack ≡ s.rack = cc in subst (SameOutside mark old) same h.outside
   outside (operator_due k b) y d s (rack, n, f, h) e = let same : rack ≡ s.rack = cc in subst (SameOutside mark old) same h.outside
-  outside M.refused y d s h e = let z : ◌≡◌ {A = ℕ} 0 1 = cc in absurd (omega arith)
+  outside M.refused y d s (rack, f, h) e = let z : ◌≡◌ {A = ℕ} 0 1 = cc in absurd (omega arith)
 
-  is_refused : (st : State) (y : Yard) → Shows old mark st y → y ≡ refused → st ≡ M.refused
-  is_refused (operand_due k) y (rack, n, f, h) e = cc
-  is_refused (operator_due k b) y (rack, n, f, h) e = cc
-  is_refused M.refused y h e = refl
+  -- a text that has failed, or that ends too soon, leaves the rack as it was outside of the places from the mark on
+  is_refused : (st : State) (y : Yard) (left : List Node) → Shows old mark st y → y ≡ refused left → (st ≡ M.refused) × SameOutside mark old left
+  is_refused (operand_due k) y left (rack, n, f, h) e = let z : ◌≡◌ {A = ℕ} 0 1 = cc in absurd (omega arith)
+  is_refused (operator_due k b) y left (rack, n, f, h) e = let z : ◌≡◌ {A = ℕ} 0 1 = cc in absurd (omega arith)
+  is_refused M.refused y left (rack, f, h) e = let same : rack ≡ left = cc in (refl, subst (SameOutside mark old) same h)
 
-  no_tree : (o : Option Bracketed) (s : Option Site) → Finishes old mark o s → s ≡ None → o ≡ None
-  no_tree None s h e = refl
-  no_tree (Some b) s (rack, n, f, h) e = cc
+  no_tree : (o : Option Bracketed) (r : Result Site (List Node)) (left : List Node) → Finishes old mark o r → r ≡ Err left → (o ≡ None) × SameOutside mark old left
+  no_tree None r left (rack, f, h) e = let same : rack ≡ left = cc in (refl, subst (SameOutside mark old) same h)
+  no_tree (Some b) r left (rack, n, f, h) e = let z : ◌≡◌ {A = ℕ} 0 1 = cc in absurd (omega arith)
 
   -- a bracketed tree whose nodes lie in the rack
   pub record Laid (o : Option Bracketed) (rack : List Node) (n : ℕ) : Type 0 where
@@ -60,15 +60,15 @@ module _ (old : List Node) (mark : ℕ) where
     pub is : o ≡ Some tree
     pub nodes : Holding old rack mark n (nodes_of (erase tree))
 
-  laid : (o : Option Bracketed) (s : Option Site) (k : List Pending) (rack : List Node) (n : ℕ) → Finishes old mark o s → s ≡ Some (site k rack n) → Laid o rack n
-  laid None s k rack n h e = let z : ◌≡◌ {A = ℕ} 0 1 = cc in absurd (omega arith)
-  laid (Some b) s k rack n (other, m, f, h) e =
-      let same : site [] other m ≡ site k rack n = cc in
+  laid : (o : Option Bracketed) (r : Result Site (List Node)) (s : Site) → Finishes old mark o r → r ≡ Ok s → Laid o s.rack s.next
+  laid None r s (rack, f, h) e = let z : ◌≡◌ {A = ℕ} 0 1 = cc in absurd (omega arith)
+  laid (Some b) r s (rack, n, f, h) e =
+      let same : site mark [] rack n ≡ s = cc in
       record { tree = b; is = refl; nodes = subst (λ (v : Site). Holding old v.rack mark v.next (nodes_of (erase b))) same h }
 
 module _ (t : Table) (text : List ℕ) (old : List Node) (mark : ℕ) where
   abbrev reached : List Placed → Yard
-  reached done = run mark t (stands Operand (site [] old mark)) (map lexeme done)
+  reached done = run t (stands Operand (site mark [] old mark)) (map lexeme done)
 
   -- some tokens are done, the others are ahead, and this is due at the site
   pub record Sofar (ahead : List Placed) (d : Due) (s : Site) : Type 0 where
@@ -76,21 +76,21 @@ module _ (t : Table) (text : List ℕ) (old : List Node) (mark : ℕ) where
     pub split : tokens_of text ≡ done ++ ahead
     pub at : reached done ≡ stands d s
 
-  run_push : (xs : List Lexeme) (x : Lexeme) (y : Yard) → run mark t y (xs ++ (x ∷ [])) ≡ step mark t (run mark t y xs) x
+  run_push : (xs : List Lexeme) (x : Lexeme) (y : Yard) → run t y (xs ++ (x ∷ [])) ≡ step t (run t y xs) x
   unfolding run
   run_push [] x y = refl
-  run_push (w ∷ xs) x y = run_push xs x (step mark t y w)
+  run_push (w ∷ xs) x y = run_push xs x (step t y w)
 
-  pub sofar_none : (k : List Pending) → k ≡ [] → Sofar (tokens_of text) Operand (site k old mark)
+  pub sofar_begun : (ahead : List Placed) (d : Due) (s : Site) → ahead ≡ tokens_of text → stands d s ≡ stands Operand (site mark [] old mark) → Sofar ahead d s
   unfolding run
-  sofar_none k e = record { done = []; split = refl; at = ap (λ (j : List Pending). stands Operand (site j old mark)) (sym e) }
+  sofar_begun ahead d s all e = record { done = []; split = sym all; at = sym e }
 
-  reached_push : (done : List Placed) (x : Placed) (d : Due) (s : Site) → reached done ≡ stands d s → reached (done ++ (x ∷ [])) ≡ step mark t (stands d s) (lexeme x)
+  reached_push : (done : List Placed) (x : Placed) (d : Due) (s : Site) → reached done ≡ stands d s → reached (done ++ (x ∷ [])) ≡ step t (stands d s) (lexeme x)
   reached_push done x d s e =
-      ap (run mark t (stands Operand (site [] old mark))) (map_push lexeme done x) ∙ run_push (map lexeme done) (lexeme x) (stands Operand (site [] old mark)) ∙ ap (λ (y : Yard). step mark t y (lexeme x)) e
+      ap (run t (stands Operand (site mark [] old mark))) (map_push lexeme done x) ∙ run_push (map lexeme done) (lexeme x) (stands Operand (site mark [] old mark)) ∙ ap (λ (y : Yard). step t y (lexeme x)) e
 
   module _ (ahead : List Placed) (d : Due) (s : Site) (h : Sofar ahead d s) where
-    pub sofar_more : (x : Placed) (rest : List Placed) (e : Due) (r : Site) → ahead ≡ x ∷ rest → stands e r ≡ step mark t (stands d s) (lexeme x) → Sofar rest e r
+    pub sofar_more : (x : Placed) (rest : List Placed) (e : Due) (r : Site) → ahead ≡ x ∷ rest → stands e r ≡ step t (stands d s) (lexeme x) → Sofar rest e r
     sofar_more x rest e r next went =
         record {
           done = h.done ++ (x ∷ []);
@@ -101,18 +101,12 @@ module _ (t : Table) (text : List ℕ) (old : List Node) (mark : ℕ) where
     -- the site spans as many places as tokens are done
     sofar_spans : Spans mark (mark + length h.done) s
     sofar_spans =
-        let start : Spans mark mark (site [] old mark) = record { begun = omega arith; few = omega arith } in
-        let within = run_within mark mark t (map lexeme h.done) mark (stands Operand (site [] old mark)) start in
+        let start : Spans mark mark (site mark [] old mark) = record { marked = refl; few = omega arith } in
+        let within = run_within mark t (map lexeme h.done) mark (stands Operand (site mark [] old mark)) start in
         subst (λ n. Spans mark (mark + n) s) (length-map h.done lexeme) (subst (Within mark (mark + length (map lexeme h.done))) h.at within)
 
-    pub sofar_begun : mark ≤ s.next
-    sofar_begun = sofar_spans.begun
-
-    pub sofar_few : mark ≤ 4096 → length (tokens_of text) ≤ 1024 → s.next + length s.waiting < 2 ^ 32
-    sofar_few low few = omega (arith, sofar_spans.few, ap length h.split, length-append h.done ahead)
-
-    pub sofar_room : (x : Placed) (rest : List Placed) → ahead ≡ x ∷ rest → length (tokens_of text) ≤ 1024 → length s.waiting < 1024
-    sofar_room x rest next few = omega (arith, sofar_spans.few, sofar_spans.begun, ap length h.split, length-append h.done ahead, ap length next)
+    pub sofar_room : (x : Placed) (rest : List Placed) → ahead ≡ x ∷ rest → length (tokens_of text) ≤ 1024 → s.next + length s.waiting < s.mark + 1024
+    sofar_room x rest next few = omega (arith, sofar_spans.few, sofar_spans.marked, ap length h.split, length-append h.done ahead, ap length next)
 
     state : State
     state = M.run t M.start (map lexeme h.done)
@@ -121,16 +115,13 @@ module _ (t : Table) (text : List ℕ) (old : List Node) (mark : ℕ) where
     unfolding state
     shows = shown old mark t (map lexeme h.done)
 
-    pub sofar_outside : SameOutside mark old s.rack
-    sofar_outside = outside old mark state (reached h.done) d s shows h.at
-
     module _ (lawful : LawfulTable t) where
       -- the next token fails
-      pub token_fails : (x : Placed) (rest : List Placed) → ahead ≡ x ∷ rest → refused ≡ step mark t (stands d s) (lexeme x) → Answered t text (Err (fault (fault_at t d (lexeme x)) x.place))
+      pub token_fails : (x : Placed) (rest : List Placed) → ahead ≡ x ∷ rest → (left : List Node) → refused left ≡ step t (stands d s) (lexeme x) → Answered t text (Err (fault (fault_at t d (lexeme x)) x.place)) × SameOutside mark old left
       unfolding state
-      token_fails x rest next fails =
-          answered_at t lawful text h.done x rest d (h.split ∙ ap (λ (l : List Placed). h.done ++ l) next) (unrefused old mark state (reached h.done) d s shows h.at) (tells old mark state (reached h.done) d s shows h.at)
-          (is_refused old mark (M.step t state (lexeme x)) (step mark t (reached h.done) (lexeme x)) (step_shows old mark t state (reached h.done) (lexeme x) shows) (ap (λ (y : Yard). step mark t y (lexeme x)) h.at ∙ sym fails))
+      token_fails x rest next left fails =
+          let told = is_refused old mark (M.step t state (lexeme x)) (step t (reached h.done) (lexeme x)) left (step_shows old mark t state (reached h.done) (lexeme x) shows) (ap (λ (y : Yard). step t y (lexeme x)) h.at ∙ sym fails) in
+          (answered_at t lawful text h.done x rest d (h.split ∙ ap (λ (l : List Placed). h.done ++ l) next) (unrefused old mark state (reached h.done) d s shows h.at) (tells old mark state (reached h.done) d s shows h.at) told.0, told.1)
 
       -- all tokens are done
       whole : ahead ≡ [] → map lexeme h.done ≡ lexemes_of text
@@ -141,14 +132,14 @@ module _ (t : Table) (text : List ℕ) (old : List Node) (mark : ℕ) where
       run_whole end = ap (M.run t M.start) (whole end)
 
       -- the end fails
-      pub end_fails : ahead ≡ [] → None ≡ finished mark (stands d s) → Answered t text (Err (fault (fault_at_end d) (length text)))
-      end_fails end fails =
+      pub end_fails : ahead ≡ [] → (left : List Node) → Err left ≡ finished (stands d s) → Answered t text (Err (fault (fault_at_end d) (length text))) × SameOutside mark old left
+      end_fails end left fails =
           let same = run_whole end in
-          answered_at_end t lawful text d (λ e. unrefused old mark state (reached h.done) d s shows h.at (same ∙ e)) (subst (λ (st : State). Tells st d) same (tells old mark state (reached h.done) d s shows h.at))
-          (ap M.outcome (sym same) ∙ no_tree old mark (M.outcome state) (finished mark (reached h.done)) (outcome_finishes old mark state (reached h.done) shows) (ap (finished mark) h.at ∙ sym fails))
+          let told = no_tree old mark (M.outcome state) (finished (reached h.done)) left (outcome_finishes old mark state (reached h.done) shows) (ap finished h.at ∙ sym fails) in
+          (answered_at_end t lawful text d (λ e. unrefused old mark state (reached h.done) d s shows h.at (same ∙ e)) (subst (λ (st : State). Tells st d) same (tells old mark state (reached h.done) d s shows h.at)) (ap M.outcome (sym same) ∙ told.0), told.1)
 
       -- the text reads as a tree, and the rack holds its nodes
-      pub text_read : AllByRecursion LawfulByte text → ahead ≡ [] → (k : List Pending) (rack : List Node) (n : ℕ) → Some (site k rack n) ≡ finished mark (stands d s) → (tree : Tree) × Reads t text tree × Holding old rack mark n (nodes_of tree)
-      text_read bytes end k rack n ends =
-          let l = laid old mark (M.outcome state) (finished mark (reached h.done)) k rack n (outcome_finishes old mark state (reached h.done) shows) (ap (finished mark) h.at ∙ sym ends) in
+      pub text_read : AllByRecursion LawfulByte text → ahead ≡ [] → (r : Site) → Ok r ≡ finished (stands d s) → (tree : Tree) × Reads t text tree × Holding old r.rack mark r.next (nodes_of tree)
+      text_read bytes end r ends =
+          let l = laid old mark (M.outcome state) (finished (reached h.done)) r (outcome_finishes old mark state (reached h.done) shows) (ap finished h.at ∙ sym ends) in
           (erase l.tree, found_reads t lawful text bytes l.tree (ap M.outcome (sym (run_whole end)) ∙ l.is), l.nodes)

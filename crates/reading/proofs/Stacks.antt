@@ -1,31 +1,68 @@
 -- The stack that a reader holds in a vector: its top is the vector's last element. Assumes nothing.
-use Rattle.std.proofs.Common.{◌≡◌, ℕ, suc, ◌+◌, ◌-◌, List, [], ◌∷◌, ◌++◌, reverse, length, get_or, Some, None, Option, sym, refl, ap, ◌∙◌, append-nil, arith, Bor, MatchOption}
+use Rattle.std.proofs.Common.{◌≡◌, ℕ, suc, ◌+◌, ◌-◌, List, [], ◌∷◌, ◌++◌, map, reverse, length, get_or, Some, None, Option, Ok, sym, refl, ap, ◌∙◌, append-nil, arith, Bor, MatchOption, vec_items, vec_len}
 use mathlib.Core.List.{reverse_aux, reverse-append}
+use Rattle.std.specs.Bool.{then_some, ◌==◌}
 use Rattle.std.specs.Option.{option_map, option_to_list}
 use Rattle.std.specs.Slice.{IsGetResult}
-use Rattle.std.proofs.lemmas.List.{nil_from_length}
+use Rattle.std.proofs.Math.Dec.{eqb-suc-zero}
+use Rattle.std.proofs.lemmas.List.{nil_from_length, length-map, length-reverse}
+use Rattle.notation.specs.Operators.{Op}
+use Rattle.notation.specs.Tables.{Table}
+use Rattle.rack.specs.declared.node.Node.{Node}
 use Rattle.reading.specs.declared.reader.Pending.{Pending}
-use Rattle.reading.specs.Waiting.{first, rest}
+use Rattle.reading.specs.declared.reader.Reader.{Reader}
+use Rattle.reading.specs.Waiting.{Waits, waits_of, stacked, waiting, first, rest, last_function, HasRoom}
+use Rattle.reading.specs.Yard.{Site, site_of, settled_at, below, ended, over_at, site, over}
+use Rattle.reading.proofs.Bounds.{settled_spans}
+use Rattle.reading.proofs.Turns.{one_less}
 
-pub pushed : (xs ys : List Pending) (p : Pending) → ys ≡ xs ++ (p ∷ []) → reverse ys ≡ p ∷ reverse xs
-pushed xs ys p e = ap reverse e ∙ reverse-append xs (p ∷ [])
+pub length-waiting : (r : Reader) → length (waiting r) ≡ vec_len r.pending
+unfolding stacked
+length-waiting r = length-map (reverse (vec_items r.pending)) waits_of ∙ length-reverse (vec_items r.pending) ∙ sym r.pending.ok.0
 
-pub popped : (r : Option Pending) (xs ys : List Pending) (n m : ℕ) → xs ≡ ys ++ option_to_list r → n ≡ length xs → MatchOption r ((n ≡ 0) × (m ≡ 0)) (λ _. m + 1 ≡ n) → (r ≡ first (reverse xs)) × (reverse ys ≡ rest (reverse xs))
+-- in room that nothing of has been taken there is room
+pub room_kept : (t : Table) (o : Op) (a b : Reader) (before after : List Node) → Ok (site_of b after) ≡ settled_at t o (site_of a before) → HasRoom a → HasRoom b
+room_kept t o a b before after e room =
+    let s = settled_spans t o (site_of a before) (site_of b after) e in
+    omega (arith, room, s.marked, s.few, length-waiting a, length-waiting b)
+
+-- below an operator that waits there is room
+pub room_below : (a b : Reader) (f : ℕ) → ((rack : List Node) → site_of b rack ≡ below (site_of a rack)) → last_function (waiting a) ≡ Some f → HasRoom b
+room_below a b f h top =
+    let same = h [] in
+    omega (arith, a.few, length-waiting a, length-waiting b, one_less (waiting a) f top, ap (λ (s : Site). length s.waiting) same, ap (λ (s : Site). s.next) same, ap (λ (s : Site). s.mark) same)
+
+over_tested : (m : ℕ) (k : List Waits) (rack : List Node) (n l : ℕ) → l ≡ length k → ended (then_some (l == 0) n) (site m k rack n) ≡ over m k rack n
+over_tested m [] rack n l e = ap (λ i. ended (then_some (i == 0) n) (site m [] rack n)) e
+over_tested m (w ∷ k) rack n l e = ap (λ i. ended (then_some (i == 0) n) (site m (w ∷ k) rack n)) e ∙ ap (λ b. ended (then_some b n) (site m (w ∷ k) rack n)) (eqb-suc-zero (length k))
+
+-- whether anything waits at the end
+pub over_empty : (r : Reader) (rack : List Node) → ended (then_some (vec_len r.pending == 0) r.at) (site_of r rack) ≡ over_at (site_of r rack)
+over_empty r rack = over_tested r.mark (waiting r) rack r.at (vec_len r.pending) (sym (length-waiting r))
+
+pub pushed : (xs ys : List Pending) (p : Pending) → ys ≡ xs ++ (p ∷ []) → stacked ys ≡ waits_of p ∷ stacked xs
+unfolding stacked
+pushed xs ys p e = ap (map waits_of) (ap reverse e ∙ reverse-append xs (p ∷ []))
+
+pub popped : (r : Option Pending) (xs ys : List Pending) (n m : ℕ) → xs ≡ ys ++ option_to_list r → n ≡ length xs → MatchOption r ((n ≡ 0) × (m ≡ 0)) (λ _. m + 1 ≡ n) → (option_map waits_of r ≡ first (stacked xs)) × (stacked ys ≡ rest (stacked xs))
+unfolding stacked
 popped None xs ys n m e l h =
     let none : xs ≡ [] = nil_from_length xs (sym l ∙ h.0) in
     let same : ys ≡ xs = sym (append-nil ys) ∙ sym e in
-    (sym (ap (λ (k : List Pending). first (reverse k)) none), ap reverse (same ∙ none) ∙ sym (ap (λ (k : List Pending). rest (reverse k)) none))
+    (sym (ap (λ (k : List Pending). first (stacked k)) none), ap stacked (same ∙ none) ∙ sym (ap (λ (k : List Pending). rest (stacked k)) none))
 popped (Some p) xs ys n m e l h = let on-top = pushed ys xs p e in (sym (ap first on-top), sym (ap rest on-top))
 
-last_first : (x : Pending) (xs under : List Pending) (d : Pending) → first (reverse_aux (x ∷ xs) under) ≡ Some (get_or (x ∷ xs) (length xs) d)
+last_first : (x : Pending) (xs under : List Pending) (d : Pending) → first (map waits_of (reverse_aux (x ∷ xs) under)) ≡ Some (waits_of (get_or (x ∷ xs) (length xs) d))
+unfolding stacked
 last_first x [] under d = refl
 last_first x (y ∷ ys) under d = last_first y ys (x ∷ under) d
 
 less_one : (n : ℕ) → suc n - 1 ≡ n
 less_one n = omega arith
 
-pub topped : (xs : List Pending) (r : Option (Bor Pending)) → IsGetResult xs 0 (length xs - 1) r → option_map (λ x. x.now) r ≡ first (reverse xs)
+pub topped : (xs : List Pending) (r : Option (Bor Pending)) → IsGetResult xs 0 (length xs - 1) r → option_map waits_of (option_map (λ x. x.now) r) ≡ first (stacked xs)
+unfolding stacked
 topped [] None h = refl
 topped (x ∷ xs) None h = absurd (omega (arith, h.3))
 topped [] (Some p) h = absurd (omega (arith, h.3.0))
-topped (x ∷ xs) (Some p) h = ap Some (h.1 ∙ ap (λ n. get_or (x ∷ xs) n p.now) (less_one (length xs))) ∙ sym (last_first x xs [] p.now)
+topped (x ∷ xs) (Some p) h = ap (λ (q : Pending). Some (waits_of q)) (h.1 ∙ ap (λ n. get_or (x ∷ xs) n p.now) (less_one (length xs))) ∙ sym (last_first x xs [] p.now)

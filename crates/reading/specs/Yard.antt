@@ -1,6 +1,6 @@
 -- The reading machine as it works in a rack: in place of trees it has their nodes, stored as far as the rack has room.
 -- Only the contracts of inner functions cite it.
-use Rattle.std.specs.Prelude.{ℕ, ◌+◌, ◌-◌, Bool, true, false, cond, List, [], ◌∷◌, Some, None, Option, nat_lt, slice_set}
+use Rattle.std.specs.Prelude.{ℕ, ◌+◌, ◌-◌, Bool, true, false, cond, List, [], ◌∷◌, Some, None, Option, Ok, Err, Result, nat_lt, slice_set}
 use Rattle.tokens.specs.declared.token.TokenKind.{TokenKind}
 use Rattle.tokens.specs.declared.token.TokenKind.TheVariants.{Word, Symbol, Open, Close}
 use Rattle.tokens.specs.Tokens.{Lexeme}
@@ -11,128 +11,166 @@ use Rattle.notation.specs.Tables.{Table, listed}
 use Rattle.grammar.specs.declared.due.Due.{Due}
 use Rattle.grammar.specs.declared.due.Due.TheVariants.{Operand, Operator}
 use Rattle.grammar.specs.declared.taker.Taker.{Taker}
-use Rattle.grammar.specs.declared.taker.Taker.TheVariants.{Left, Right, Neither}
+use Rattle.grammar.specs.declared.taker.Taker.TheVariants.{Left, Right}
 use Rattle.grammar.specs.Machine.{is_name}
 use Rattle.grammar.specs.Neighbours.{taker}
 use Rattle.grammar.specs.Weights.{fixity_in, operator_in}
 use Rattle.rack.specs.declared.node.Node.{Node}
 use Rattle.rack.specs.Nodes.{function_node, name_node, room}
-use Rattle.reading.specs.declared.reader.Next.{Next}
-use Rattle.reading.specs.declared.reader.Pending.{Pending}
-use Rattle.reading.specs.declared.reader.Pending.TheVariants as P
-use Rattle.reading.specs.Waiting.{begins}
+use Rattle.reading.specs.declared.reader.Reader.{Reader}
+use Rattle.reading.specs.Waiting.{Waits, waits, waiting, rest, begins}
+use Rattle.reading.specs.Waiting.Waits.{bracket, operator}
 
--- what waits, the rack, and the next free place in it
+-- where the tree's nodes begin, what waits, the rack, and the next free place in it
 pub record Site : Type 0 where
-  pub waiting : List Pending
+  pub mark : ℕ
+  pub waiting : List Waits
   pub rack : List Node
   pub next : ℕ
 
-abbrev pub site : List Pending → List Node → ℕ → Site
-site k rack n = record { waiting = k; rack = rack; next = n }
+abbrev pub site : ℕ → List Waits → List Node → ℕ → Site
+site mark k rack n = record { mark = mark; waiting = k; rack = rack; next = n }
 
--- this is due at the site, or the text has failed
+-- this is due at the site; or the text has failed, which leaves the rack as it then is
 pub data Yard : Type 0 where
   stands : Due → Site → Yard
-  refused : Yard
+  refused : List Node → Yard
 
 -- the node is stored if the place is within the rack's room
 abbrev pub stored : List Node → ℕ → Node → List Node
 stored rack n node = cond (nat_lt n (room rack)) (slice_set rack n node) rack
 
--- a word or a symbol where an operand is due: the prefix operator that is listed under it, else the name that it is
-abbrev pub begun : List ℕ → Option ℕ → Bool → List Pending → List Node → ℕ → Yard
-begun w (Some f) name k rack n = stands Operand (site (P.Operator f n ∷ k) rack n)
-begun w None true k rack n = stands Operator (site k (stored rack n (name_node w)) (n + 1))
-begun w None false k rack n = refused
-
--- `)` where no operator waits since the latest bracket
-abbrev pub shut : List Pending → List Node → ℕ → Yard
-shut [] rack n = refused
-shut (P.Bracket m ∷ k) rack n = stands Operator (site k rack n)
-shut (P.Operator f m ∷ k) rack n = refused
-
--- the end where no operator waits since the latest bracket
-abbrev pub over : List Pending → List Node → ℕ → Option Site
-over [] rack n = Some (site [] rack n)
-over (p ∷ k) rack n = None
-
-abbrev pub shut_at : Site → Yard
-shut_at s = shut s.waiting s.rack s.next
-
-abbrev pub over_at : Site → Option Site
-over_at s = over s.waiting s.rack s.next
-
--- the left neighbour takes the operand and the right one goes on, or the right one takes it, or neither may
-abbrev pub decided : Taker → Option Site → Option Site → Option Site
-decided Left further here = further
-decided Right further here = here
-decided Neither further here = None
+-- the left neighbour takes the operand and the right one goes on, or the right one takes it here, or neither may
+abbrev pub decided : Option Taker → Result Site (List Node) → Site → Result Site (List Node)
+decided (Some Left) further here = further
+decided (Some Right) further here = Ok here
+decided None further here = Err here.rack
 
 module _ (mark : ℕ) where
+  -- `)` where no operator waits since the latest bracket
+  abbrev pub shut : List Waits → List Node → ℕ → Yard
+  shut [] rack n = refused rack
+  shut (bracket m ∷ k) rack n = stands Operator (site mark k rack n)
+  shut (operator f m ∷ k) rack n = refused rack
+
+  -- the end where no operator waits since the latest bracket
+  abbrev pub over : List Waits → List Node → ℕ → Result Site (List Node)
+  over [] rack n = Ok (site mark [] rack n)
+  over (w ∷ k) rack n = Err rack
+
   -- f's node is put after the current operand, as the last of its tree
-  abbrev pub covered : ℕ → List Pending → List Node → ℕ → List Node
+  abbrev pub covered : ℕ → List Waits → List Node → ℕ → List Node
   covered f k rack n = stored rack n (function_node f (n - begins mark k + 1))
 
   -- the operators that wait since the latest bracket take their operands
-  unfoldable pub unwound : List Pending → List Node → ℕ → Site
-  unwound [] rack n = site [] rack n
-  unwound (P.Bracket m ∷ k) rack n = site (P.Bracket m ∷ k) rack n
-  unwound (P.Operator f m ∷ k) rack n = unwound k (covered f k rack n) (n + 1)
+  unfoldable pub unwound : List Waits → List Node → ℕ → Site
+  unwound [] rack n = site mark [] rack n
+  unwound (bracket m ∷ k) rack n = site mark (bracket m ∷ k) rack n
+  unwound (operator f m ∷ k) rack n = unwound k (covered f k rack n) (n + 1)
 
-  -- the site when the end comes, if the text is finished there
-  abbrev pub finished : Yard → Option Site
-  finished (stands Operand s) = None
-  finished (stands Operator s) = over_at (unwound s.waiting s.rack s.next)
-  finished refused = None
+  -- those that wait and take the operand before the operator o take it
+  unfoldable pub settled : Table → Op → List Waits → List Node → ℕ → Result Site (List Node)
+  settled t o [] rack n = Ok (site mark [] rack n)
+  settled t o (bracket m ∷ k) rack n = Ok (site mark (bracket m ∷ k) rack n)
+  settled t o (operator f m ∷ k) rack n = decided (taker (operator_in t f) o) (settled t o k (covered f k rack n) (n + 1)) (site mark (operator f m ∷ k) rack n)
 
-  -- the operator of f stands at the site, if the operand before it was decided
-  abbrev pub standing : Option Fixity → ℕ → Option Site → Yard
-  standing None f s = refused
-  standing (Some prefix) f s = refused
-  standing (Some postfix) f None = refused
-  standing (Some postfix) f (Some s) = stands Operator (site s.waiting (covered f s.waiting s.rack s.next) (s.next + 1))
-  standing (Some between) f None = refused
-  standing (Some between) f (Some s) = stands Operand (site (P.Operator f s.next ∷ s.waiting) s.rack s.next)
+-- The same at a site.
+abbrev pub added : Node → Site → Site
+added node s = site s.mark s.waiting (stored s.rack s.next node) (s.next + 1)
 
-  module _ (t : Table) where
-    -- those that wait and take the operand before the operator o take it
-    unfoldable pub settled : Op → List Pending → List Node → ℕ → Option Site
-    settled o [] rack n = Some (site [] rack n)
-    settled o (P.Bracket m ∷ k) rack n = Some (site (P.Bracket m ∷ k) rack n)
-    settled o (P.Operator f m ∷ k) rack n = decided (taker (operator_in t f) o) (settled o k (covered f k rack n) (n + 1)) (Some (site (P.Operator f m ∷ k) rack n))
+abbrev pub covered_at : ℕ → Site → Site
+covered_at f s = site s.mark s.waiting (covered s.mark f s.waiting s.rack s.next) (s.next + 1)
 
-    -- a word or a symbol where an operator is due: the operator that is listed under it
-    abbrev pub continued : Option ℕ → List Pending → List Node → ℕ → Yard
-    continued (Some f) k rack n = standing (fixity_in t f) f (settled (operator_in t f) k rack n)
-    continued None k rack n = refused
+abbrev pub below : Site → Site
+below s = site s.mark (rest s.waiting) s.rack s.next
 
-    abbrev pub operand_step : TokenKind → List ℕ → List Pending → List Node → ℕ → Yard
-    operand_step Word w k rack n = begun w (listed t Before w) (is_name t w) k rack n
-    operand_step Symbol w k rack n = begun w (listed t Before w) false k rack n
-    operand_step Open w k rack n = stands Operand (site (P.Bracket n ∷ k) rack n)
-    operand_step Close w k rack n = refused
+abbrev pub waiting_on : Option ℕ → Site → Site
+waiting_on f s = site s.mark (waits f s.next ∷ s.waiting) s.rack s.next
 
-    abbrev pub operator_step : TokenKind → List ℕ → List Pending → List Node → ℕ → Yard
-    operator_step Word w k rack n = continued (listed t After w) k rack n
-    operator_step Symbol w k rack n = continued (listed t After w) k rack n
-    operator_step Open w k rack n = refused
-    operator_step Close w k rack n = shut_at (unwound k rack n)
+abbrev pub unwound_at : Site → Site
+unwound_at s = unwound s.mark s.waiting s.rack s.next
 
-    abbrev pub step : Yard → Lexeme → Yard
-    step (stands Operand s) x = operand_step x.kind x.bytes s.waiting s.rack s.next
-    step (stands Operator s) x = operator_step x.kind x.bytes s.waiting s.rack s.next
-    step refused x = refused
+abbrev pub settled_at : Table → Op → Site → Result Site (List Node)
+settled_at t o s = settled s.mark t o s.waiting s.rack s.next
 
-    unfoldable pub run : Yard → List Lexeme → Yard
-    run y [] = y
-    run y (x ∷ xs) = run (step y x) xs
+abbrev pub shut_at : Site → Yard
+shut_at s = shut s.mark s.waiting s.rack s.next
 
--- the site that an inner function leaves, and the state that one tells
-abbrev pub sited : Option ℕ → List Pending → List Node → Option Site
-sited (Some n) k rack = Some (site k rack n)
-sited None k rack = None
+abbrev pub over_at : Site → Result Site (List Node)
+over_at s = over s.mark s.waiting s.rack s.next
 
-abbrev pub told : Option Next → List Pending → List Node → Yard
-told (Some next) k rack = stands next.due (site k rack next.at)
-told None k rack = refused
+-- a word or a symbol where an operand is due: the prefix operator that is listed under it, else the name that it is
+abbrev pub begun : List ℕ → Option ℕ → Bool → Site → Yard
+begun w (Some f) name s = stands Operand (waiting_on (Some f) s)
+begun w None true s = stands Operator (added (name_node w) s)
+begun w None false s = refused s.rack
+
+-- the site when the end comes, if the text is finished there, and else the rack that it leaves
+abbrev pub finished : Yard → Result Site (List Node)
+finished (stands Operand s) = Err s.rack
+finished (stands Operator s) = over_at (unwound_at s)
+finished (refused rack) = Err rack
+
+-- the operator of f stands at the site, if the operand before it was decided; with no operator the rack stays
+abbrev pub standing : Option Fixity → ℕ → List Node → Result Site (List Node) → Yard
+standing None f rack r = refused rack
+standing (Some x) f rack (Err after) = refused after
+standing (Some prefix) f rack (Ok s) = refused s.rack
+standing (Some postfix) f rack (Ok s) = stands Operator (covered_at f s)
+standing (Some between) f rack (Ok s) = stands Operand (waiting_on (Some f) s)
+
+module _ (t : Table) where
+  abbrev pub standing_at : ℕ → Site → Yard
+  standing_at f s = standing (fixity_in t f) f s.rack (settled_at t (operator_in t f) s)
+
+  -- a word or a symbol where an operator is due: the operator that is listed under it
+  abbrev pub continued : Option ℕ → Site → Yard
+  continued (Some f) s = standing_at f s
+  continued None s = refused s.rack
+
+  abbrev pub operand_step : TokenKind → List ℕ → Site → Yard
+  operand_step Word w s = begun w (listed t Before w) (is_name t w) s
+  operand_step Symbol w s = begun w (listed t Before w) false s
+  operand_step Open w s = stands Operand (waiting_on None s)
+  operand_step Close w s = refused s.rack
+
+  abbrev pub operator_step : TokenKind → List ℕ → Site → Yard
+  operator_step Word w s = continued (listed t After w) s
+  operator_step Symbol w s = continued (listed t After w) s
+  operator_step Open w s = refused s.rack
+  operator_step Close w s = shut_at (unwound_at s)
+
+  abbrev pub step : Yard → Lexeme → Yard
+  step (stands Operand s) x = operand_step x.kind x.bytes s
+  step (stands Operator s) x = operator_step x.kind x.bytes s
+  step (refused rack) x = refused rack
+
+  unfoldable pub run : Yard → List Lexeme → Yard
+  run y [] = y
+  run y (x ∷ xs) = run (step y x) xs
+
+-- where the reader stands in the rack
+abbrev pub site_of : Reader → List Node → Site
+site_of reader rack = site reader.mark (waiting reader) rack reader.at
+
+abbrev pub yard_of : Reader → List Node → Yard
+yard_of reader rack = stands reader.due (site_of reader rack)
+
+-- what an inner function leaves at a site: with what it tells is due next, if the text has not failed; with whether it
+-- has not failed; and with the place behind the tree's nodes, if it is finished
+abbrev pub told : Option Due → Site → Yard
+told (Some due) s = stands due s
+told None s = refused s.rack
+
+abbrev pub sited : Bool → Site → Result Site (List Node)
+sited true s = Ok s
+sited false s = Err s.rack
+
+abbrev pub ended : Option ℕ → Site → Result Site (List Node)
+ended (Some end) s = Ok (site s.mark s.waiting s.rack end)
+ended None s = Err s.rack
+
+-- what a step leaves
+abbrev pub stepped : Bool → Yard → List Node → Yard
+stepped true y rack = y
+stepped false y rack = refused rack

@@ -1,27 +1,20 @@
 // The loan of a fill: while an expression is read, the fill follows the nodes that are put.
-ghost use Rattle.std.specs.Prelude.{◌≡◌, ◌≤◌, if◌then◌else◌};
+ghost use Rattle.std.specs.Prelude.{◌≡◌, ◌≤◌};
 
 use rack::Fill;
 
-// The fill on loan. Every way out but acceptance puts it back to the mark.
+// The fill on loan, and what it goes back to on every way out: where it was, until the tree is accepted.
 pub(crate) struct FillLoan<'a> {
     pub(crate) fill: &'a mut Fill,
-    pub(crate) mark: usize,
-    pub(crate) accepted: bool,
+    pub(crate) back: usize,
 }
 
 impl Drop for FillLoan<'_> {
     fn drop(self)
-        requires { self.mark ≤ 4096 }
-        ensures { self.exit.0.now.used ≡ (if self.entry.accepted then self.entry.fill.now.used else self.entry.mark) }
+        requires { self.back ≤ 4096 }
+        ensures { self.exit.0.now.used ≡ self.entry.back }
     {
-        if !self.accepted {
-            self.fill.used = self.mark;
-        }
-        let FillLoan {
-            fill: _,
-            mark: _,
-            accepted: _,
-        } = self;
+        self.fill.used = self.back;
+        let FillLoan { fill: _, back: _ } = self;
     }
 }

@@ -1,25 +1,26 @@
-// The reader and its working memory, which is reserved when the reader is made.
-ghost use Rattle.std.specs.Prelude.{◌≤◌, vec_capacity};
+// The reader: where the reading of an expression has come, and its working memory.
+ghost use Rattle.std.specs.Prelude.{◌+◌, ◌≤◌, vec_capacity, vec_len};
 
 use grammar::Due;
 
-// What waits for its right operand, whose nodes begin at `from`: a bracket that is open, or an operator.
+// What waits for its right operand, whose nodes begin at `from`: a function's operator, or a bracket that is open.
 #[derive(Clone, Copy)]
-pub(crate) enum Pending {
-    Bracket { from: usize },
-    Operator { function: u8, from: usize },
+pub(crate) struct Pending {
+    pub(crate) function: Option<u8>,
+    pub(crate) from: usize,
 }
 
 // Reads expressions as trees and puts these into racks. No call wants memory once the reader is made.
 #[derive(Drop)]
 pub struct Reader {
+    // What waits, the latest last.
     pub(crate) pending: Vec<Pending>,
-    ghost reserved: { 1024 ≤ vec_capacity pending },
-}
-
-// Where reading goes on: what is due next, and where the next node goes.
-#[derive(Clone, Copy)]
-pub(crate) struct Next {
-    pub(crate) due: Due,
+    // Where the tree's nodes begin, and where the next one goes.
+    pub(crate) mark: usize,
     pub(crate) at: usize,
+    pub(crate) due: Due,
+    ghost reserved: { 1024 ≤ vec_capacity pending },
+    ghost low: { mark ≤ 4096 },
+    ghost begun: { mark ≤ at },
+    ghost few: { at + vec_len pending ≤ mark + 1024 },
 }

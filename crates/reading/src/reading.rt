@@ -1,16 +1,15 @@
 // Read: an expression as a tree in a rack.
-ghost use Rattle.std.specs.Prelude.{◌≡◌, ◌+◌, ◌^◌, ◌<◌, length, IfErr};
+ghost use Rattle.std.specs.Prelude.{◌≡◌, IfErr, is_ok};
 ghost use Rattle.std.specs.Result.{result_ok};
 ghost use Rattle.tokens.specs.Faults.{fault};
 ghost use Rattle.tokens.specs.Tokens.{lexeme, placed};
 ghost use Rattle.grammar.specs.Refusals.{fault_at, fault_at_end};
-ghost use Rattle.reading.specs.Outside.{SameOutside};
 ghost use Rattle.reading.specs.Readings.{OnlyReading};
-ghost use Rattle.reading.specs.Waiting.{waiting};
-ghost use Rattle.reading.specs.Yard.{site, sited, told, finished, stands, step};
+ghost use Rattle.reading.specs.Waiting.{HasRoom};
+ghost use Rattle.reading.specs.Yard.{ended, finished, site_of, step, stepped, yard_of};
 
 use crate::loan::FillLoan;
-use crate::reader::{Next, Reader};
+use crate::reader::Reader;
 use crate::refusals::{fault_at, fault_at_end};
 use crate::storing::room;
 use grammar::Due;
@@ -19,28 +18,46 @@ use rack::{Fill, Node, RACK_NODES};
 use tokens::{Cutter, Fault, FaultKind, Token, check_expression};
 
 impl Reader {
-    // A token where this is due: where reading goes on, or the fault of a token that fails.
+    // Takes the next token, or answers the fault of one that fails.
     fn step<N: Notation>(
         &mut self,
         notation: &N,
         rack: &mut [Node],
-        mark: usize,
-        next: Next,
         token: Token<'_>,
-    ) -> Result<Next, Fault>
-        requires bound { next.at + length (waiting self.old) < 2 ^ 32 }
-        requires room { length (waiting self.old) < 1024 }
-        ensures state { told (result_ok result) (waiting self.new) rack.new ≡ step mark (N.table notation.now) (stands next.due (site (waiting self.old) rack.old next.at)) (lexeme (placed token.entry)) }
-        ensures fault { IfErr result (λ f. f ≡ fault (fault_at (N.table notation.now) next.due (lexeme (placed token.entry))) (placed token.entry).place) }
-        ensures kept { SameOutside next.at rack.old rack.new }
+    ) -> Result<(), Fault>
+        requires { HasRoom self.old }
+        ensures state { stepped (is_ok result) (yard_of self.new rack.new) rack.new ≡ step (N.table notation.now) (yard_of self.old rack.old) (lexeme (placed token.entry)) }
+        ensures fault { IfErr result (λ f. f ≡ fault (fault_at (N.table notation.now) self.old.due (lexeme (placed token.entry))) (placed token.entry).place) }
     {
-        match self.advance(notation, rack, mark, next, token) {
-            Some(after) => Ok(after),
-            None => Err(Fault {
-                kind: fault_at(notation, next.due, token),
+        let due = self.due;
+        let next = match due {
+            Due::Operand => self.operand(notation, rack, token),
+            Due::Operator => self.operator(notation, rack, token),
+        };
+        let Some(next) = next else {
+            return Err(Fault {
+                kind: fault_at(notation, due, token),
                 place: token.place(),
-            }),
+            });
+        };
+        self.due = next;
+        Ok(())
+    }
+
+    // The end, at this place: where the tree's nodes end, or the fault of an end that fails.
+    fn finish(&mut self, rack: &mut [Node], place: usize) -> Result<usize, Fault>
+        ensures state { ended (result_ok result) (site_of self.new rack.new) ≡ finished (yard_of self.old rack.old) }
+        ensures fault { IfErr result (λ f. f ≡ fault (fault_at_end self.old.due) place) }
+    {
+        let kind = fault_at_end(self.due);
+        if let Due::Operand = self.due {
+            return Err(Fault { kind, place });
         }
+        self.unwind(rack);
+        self.pending
+            .is_empty()
+            .then_some(self.at)
+            .ok_or(Fault { kind, place })
     }
 
     // Reads the expression as a tree, puts its nodes behind those in use, raises the fill by them and answers the root.
@@ -55,35 +72,21 @@ impl Reader {
         ensures { OnlyReading (N.table notation.now) text.now rack.old fill.old.used result rack.new fill.new.used }
     {
         let mark = fill.used;
-        let mut loan = FillLoan {
-            fill,
-            mark,
-            accepted: false,
-        };
+        let mut loan = FillLoan { fill, back: mark };
         check_expression(text)?;
-        self.clear();
-        let mut next = Next {
-            due: Due::Operand,
-            at: mark,
-        };
+        self.begin(mark);
         for token in Cutter::new(text) {
-            next = self.step(notation, rack, mark, next, token)?;
-            loan.fill.used = next.at.min(RACK_NODES);
+            self.step(notation, rack, token)?;
+            loan.fill.used = self.at.min(RACK_NODES);
         }
-        let Some(end) = self.finish(rack, mark, next) else {
-            return Err(Fault {
-                kind: fault_at_end(next.due),
-                place: text.len(),
-            });
-        };
+        let end = self.finish(rack, text.len())?;
         if end > room(rack) {
             return Err(Fault {
                 kind: FaultKind::RackFull,
                 place: mark,
             });
         }
-        loan.fill.used = end;
-        loan.accepted = true;
+        loan.back = end;
         Ok(end - 1)
     }
 }

@@ -4,7 +4,7 @@ ghost use Rattle.tokens.specs.Tokens.{lexeme, placed};
 ghost use Rattle.grammar.specs.Refusals.{fault_at, fault_at_end, fault_for_operator, is_unlisted_symbol};
 
 use grammar::Due;
-use notation::Notation;
+use notation::{Notation, Position};
 use tokens::{FaultKind, Token};
 
 // Whether the token is a symbol that the notation lists in neither position.
@@ -12,8 +12,8 @@ fn is_unlisted_symbol<N: Notation>(notation: &N, token: Token<'_>) -> bool
     ensures { result ≡ is_unlisted_symbol (N.table notation.now) (placed token.entry).kind (placed token.entry).bytes }
 {
     match token {
-        Token::Symbol { bytes, .. } => notation.before(bytes).is_none()
-            && notation.after(bytes).is_none(),
+        Token::Symbol { bytes, .. } => notation.listed(Position::Before, bytes).is_none()
+            && notation.listed(Position::After, bytes).is_none(),
         Token::Word { .. } | Token::Open { .. } | Token::Close { .. } => false,
     }
 }
@@ -23,7 +23,10 @@ fn fault_for_operator<N: Notation>(notation: &N, token: Token<'_>) -> FaultKind
     ensures { result ≡ fault_for_operator (N.table notation.now) (placed token.entry).kind (placed token.entry).bytes }
 {
     match token {
-        Token::Word { bytes, .. } | Token::Symbol { bytes, .. } => match notation.after(bytes) {
+        Token::Word { bytes, .. } | Token::Symbol { bytes, .. } => match notation.listed(
+            Position::After,
+            bytes,
+        ) {
             Some(_) => FaultKind::PriorityClash,
             None => FaultKind::OperatorExpected,
         },

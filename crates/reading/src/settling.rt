@@ -1,10 +1,8 @@
 // Settling: the operators that wait take their operands, before an operator, a `)` or the end.
-ghost use Rattle.std.specs.Prelude.{◌≡◌, ◌+◌, ◌^◌, ◌<◌, length};
+ghost use Rattle.std.specs.Prelude.{◌≡◌, is_some};
 ghost use Rattle.notation.specs.Operators.{meant};
 ghost use Rattle.grammar.specs.Weights.{operator_in};
-ghost use Rattle.reading.specs.Outside.{SameOutside};
-ghost use Rattle.reading.specs.Waiting.{waiting};
-ghost use Rattle.reading.specs.Yard.{site, sited, settled, unwound};
+ghost use Rattle.reading.specs.Yard.{site_of, sited, settled_at, unwound_at};
 
 use crate::neighbours::taker_between;
 use crate::reader::Reader;
@@ -16,52 +14,38 @@ use rack::Node;
 fn waiting_operator<N: Notation>(notation: &N, function: u8) -> Operator<'_>
     ensures { meant result ≡ operator_in (N.table notation.now) function }
 {
-    match notation.operator(function) {
-        Some(operator) => operator,
-        None => Operator {
-            priority: 1,
-            form: Form::Xfx,
-            spelling: b"",
-        },
-    }
+    notation.operator(function).unwrap_or(Operator {
+        priority: 1,
+        form: Form::Xfx,
+        spelling: b"",
+    })
 }
 
 impl Reader {
-    // Those that wait and take the operand before `right` take it; the answer is the next free place, or none if
-    // neither neighbour may take the operand between them.
+    // Those that wait and take the operand before `right` take it. None: neither neighbour may take the one between them.
     pub(crate) fn settle<N: Notation>(
         &mut self,
         notation: &N,
         rack: &mut [Node],
-        mark: usize,
-        at: usize,
         right: Operator<'_>,
-    ) -> Option<usize>
-        requires { at + length (waiting self.old) < 2 ^ 32 }
-        ensures state { sited result (waiting self.new) rack.new ≡ settled mark (N.table notation.now) (meant right.entry) (waiting self.old) rack.old at }
-        ensures kept { SameOutside at rack.old rack.new }
+    ) -> Option<()>
+        ensures { sited (is_some result) (site_of self.new rack.new) ≡ settled_at (N.table notation.now) (meant right.entry) (site_of self.old rack.old) }
     {
-        let mut at = at;
         while let Some(function) = self.last_function() {
-            match taker_between(waiting_operator(notation, function), right) {
-                Taker::Left => at = self.complete(rack, mark, at, function),
-                Taker::Right => return Some(at),
-                Taker::Neither => return None,
+            match taker_between(waiting_operator(notation, function), right)? {
+                Taker::Left => self.complete(rack, function),
+                Taker::Right => return Some(()),
             }
         }
-        Some(at)
+        Some(())
     }
 
-    // The operators that wait since the latest bracket take their operands; the answer is the next free place.
-    pub(crate) fn unwind(&mut self, rack: &mut [Node], mark: usize, at: usize) -> usize
-        requires { at + length (waiting self.old) < 2 ^ 32 }
-        ensures state { site (waiting self.new) rack.new result ≡ unwound mark (waiting self.old) rack.old at }
-        ensures kept { SameOutside at rack.old rack.new }
+    // The operators that wait since the latest bracket take their operands.
+    pub(crate) fn unwind(&mut self, rack: &mut [Node])
+        ensures { site_of self.new rack.new ≡ unwound_at (site_of self.old rack.old) }
     {
-        let mut at = at;
         while let Some(function) = self.last_function() {
-            at = self.complete(rack, mark, at, function);
+            self.complete(rack, function);
         }
-        at
     }
 }

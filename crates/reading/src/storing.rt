@@ -1,9 +1,8 @@
 // Storing: how nodes are put into a rack.
-ghost use Rattle.std.specs.Prelude.{◌≡◌, ◌+◌, ◌^◌, ◌<◌};
+ghost use Rattle.std.specs.Prelude.{◌≡◌, Some};
 ghost use Rattle.rack.specs.Nodes.{room};
-ghost use Rattle.reading.specs.Outside.{SameOutside};
-ghost use Rattle.reading.specs.Waiting.{waiting, rest};
-ghost use Rattle.reading.specs.Yard.{stored, covered};
+ghost use Rattle.reading.specs.Waiting.{waiting, last_function, HasRoom};
+ghost use Rattle.reading.specs.Yard.{site_of, added, covered_at, below};
 
 use crate::reader::Reader;
 use rack::{Item, Node, RACK_NODES};
@@ -15,45 +14,36 @@ pub(crate) fn room(rack: &[Node]) -> usize
     rack.len().min(RACK_NODES)
 }
 
-// Stores the node, if the place is within the rack's room.
-pub(crate) fn put(rack: &mut [Node], place: usize, node: Node)
-    ensures nodes { rack.new ≡ stored rack.old place node }
-    ensures kept { SameOutside place rack.old rack.new }
-{
-    if place < room(rack) {
-        rack[place] = node;
-    }
-}
-
 impl Reader {
-    // Puts the function's node after the current operand, as the last of its tree, and answers the next free place.
-    pub(crate) fn cover(&self, rack: &mut [Node], mark: usize, at: usize, function: u8) -> usize
-        requires { at < 2 ^ 32 }
-        ensures answer { result ≡ at + 1 }
-        ensures nodes { rack.new ≡ covered mark function (waiting self.now) rack.old at }
-        ensures kept { SameOutside at rack.old rack.new }
+    // Puts the node at the next free place, which is stored if the place is within the rack's room.
+    pub(crate) fn put(&mut self, rack: &mut [Node], node: Node)
+        requires { HasRoom self.old }
+        ensures { site_of self.new rack.new ≡ added node (site_of self.old rack.old) }
+    {
+        let at = self.at;
+        self.at += 1;
+        // By index: what `get_mut` lends leaves a proof with the length of the rack alone.
+        if at < room(rack) {
+            rack[at] = node;
+        }
+    }
+
+    // Puts the function's node after the current operand, as the last of its tree.
+    pub(crate) fn cover(&mut self, rack: &mut [Node], function: u8)
+        requires { HasRoom self.old }
+        ensures { site_of self.new rack.new ≡ covered_at function (site_of self.old rack.old) }
     {
         let item = Item::Function(function);
-        let size = at.saturating_sub(self.begins(mark)) + 1;
-        put(rack, at, Node { item, size });
-        at + 1
+        let size = self.at.saturating_sub(self.begins()) + 1;
+        self.put(rack, Node { item, size });
     }
 
-    // The operator on top, which is the function's, takes the current operand; the answer is the next free place.
-    pub(crate) fn complete(
-        &mut self,
-        rack: &mut [Node],
-        mark: usize,
-        at: usize,
-        function: u8,
-    ) -> usize
-        requires { at < 2 ^ 32 }
-        ensures answer { result ≡ at + 1 }
-        ensures stack { waiting self.new ≡ rest (waiting self.old) }
-        ensures nodes { rack.new ≡ covered mark function (rest (waiting self.old)) rack.old at }
-        ensures kept { SameOutside at rack.old rack.new }
+    // The operator on top, which is the function's, takes the current operand.
+    pub(crate) fn complete(&mut self, rack: &mut [Node], function: u8)
+        requires { last_function (waiting self.old) ≡ Some function }
+        ensures { site_of self.new rack.new ≡ covered_at function (below (site_of self.old rack.old)) }
     {
         let _ = self.pop();
-        self.cover(rack, mark, at, function)
+        self.cover(rack, function);
     }
 }

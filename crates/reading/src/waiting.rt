@@ -1,8 +1,12 @@
 // What waits while an expression is read: a stack, the latest on top.
-ghost use Rattle.std.specs.Prelude.{◌≡◌, ◌<◌, [], ◌∷◌, length, IfOk};
-ghost use Rattle.reading.specs.Waiting.{waiting, first, rest, last_function, begins};
+ghost use Rattle.std.specs.Prelude.{◌≡◌, ◌≤◌, [], List, IfOk};
+ghost use Rattle.std.specs.Option.{option_map};
+ghost use Rattle.rack.specs.declared.node.Node.{Node};
+ghost use Rattle.reading.specs.Waiting.{waiting, waits_of, first, last_function, begins, HasRoom};
+ghost use Rattle.reading.specs.Yard.{site, site_of, yard_of, stands, below, waiting_on};
 
 use crate::reader::{Pending, Reader};
+use grammar::Due;
 use std::alloc::{AllocError, Global};
 use tokens::MAX_TOKENS;
 
@@ -12,31 +16,44 @@ impl Reader {
         ensures { IfOk result (λ reader. waiting reader ≡ []) }
     {
         let pending = Vec::with_capacity(heap, MAX_TOKENS)?;
-        Ok(Reader { pending })
+        Ok(Reader {
+            pending,
+            mark: 0,
+            at: 0,
+            due: Due::Operand,
+        })
     }
 
-    pub(crate) fn clear(&mut self)
-        ensures { waiting self.new ≡ [] }
+    // Begins an expression whose nodes go from `mark` on: nothing waits, and an operand is due.
+    pub(crate) fn begin(&mut self, mark: usize)
+        requires { mark ≤ 4096 }
+        ensures { (rack : List Node) → yard_of self.new rack ≡ stands Due.Operand (site mark [] rack mark) }
     {
         self.pending.clear();
+        self.mark = mark;
+        self.at = mark;
+        self.due = Due::Operand;
     }
 
-    pub(crate) fn push(&mut self, pending: Pending)
-        requires { length (waiting self.old) < 1024 }
-        ensures { waiting self.new ≡ pending ∷ waiting self.old }
+    // The function's operator, or a bracket, waits for its right operand, which is due next.
+    pub(crate) fn wait(&mut self, function: Option<u8>) -> Due
+        requires { HasRoom self.old }
+        ensures { (rack : List Node) → stands result (site_of self.new rack) ≡ stands Due.Operand (waiting_on function (site_of self.old rack)) }
     {
-        self.pending.push_reserved(pending);
+        let from = self.at;
+        self.pending.push_reserved(Pending { function, from });
+        Due::Operand
     }
 
     pub(crate) fn pop(&mut self) -> Option<Pending>
-        ensures answer { result ≡ first (waiting self.old) }
-        ensures after { waiting self.new ≡ rest (waiting self.old) }
+        ensures answer { option_map waits_of result ≡ first (waiting self.old) }
+        ensures after { (rack : List Node) → site_of self.new rack ≡ below (site_of self.old rack) }
     {
         self.pending.pop()
     }
 
     pub(crate) fn top(&self) -> Option<Pending>
-        ensures { result ≡ first (waiting self.now) }
+        ensures { option_map waits_of result ≡ first (waiting self.now) }
     {
         self.pending.as_slice().last().copied()
     }
@@ -45,19 +62,13 @@ impl Reader {
     pub(crate) fn last_function(&self) -> Option<u8>
         ensures { result ≡ last_function (waiting self.now) }
     {
-        match self.top() {
-            Some(Pending::Operator { function, .. }) => Some(function),
-            Some(Pending::Bracket { .. }) | None => None,
-        }
+        self.top()?.function
     }
 
-    // Where the nodes of the current operand begin, in a tree whose nodes begin at `mark`.
-    pub(crate) fn begins(&self, mark: usize) -> usize
-        ensures { result ≡ begins mark (waiting self.now) }
+    // Where the nodes of the current operand begin.
+    pub(crate) fn begins(&self) -> usize
+        ensures { result ≡ begins self.now.mark (waiting self.now) }
     {
-        match self.top() {
-            Some(Pending::Bracket { from }) | Some(Pending::Operator { from, .. }) => from,
-            None => mark,
-        }
+        self.top().map_or(self.mark, |pending| pending.from)
     }
 }

@@ -1,12 +1,11 @@
 // The list of the worked examples, as a notation.
 ghost use Rattle.std.specs.Prelude.{◌≡◌};
-ghost use Rattle.notation.specs.declared.form.Position.TheVariants.{Before, After};
 ghost use Rattle.notation.specs.Operators.{told};
-ghost use Rattle.notation.specs.Tables.{listed_from};
-ghost use Rattle.grammar.specs.Examples.{example_table};
+ghost use Rattle.notation.specs.Rows.{listed_in};
+ghost use Rattle.grammar.specs.Examples.{example_rows, example_table};
 ghost use Rattle.grammar.proofs.Shown.{examples_hold};
 
-use notation::{Form, Notation, Operator};
+use notation::{Form, Notation, Operator, Position};
 
 pub struct ExampleList;
 
@@ -31,27 +30,18 @@ fn operator_of(function: u8) -> Option<Operator<'static>>
     })
 }
 
-// The function of the list with the spelling before its operand, if there is one.
-fn function_before(spelling: &[u8]) -> Option<u8>
-    ensures { result ≡ listed_from example_table Before spelling.now 0 64 }
+// The function of the list that is listed under the spelling in the position, if there is one.
+fn function_listed(position: Position, spelling: &[u8]) -> Option<u8>
+    ensures { result ≡ listed_in example_rows position spelling.now }
 {
-    match spelling {
-        b"not" => Some(0),
-        b"-" => Some(2),
-        _ => None,
-    }
-}
-
-// The function of the list with the spelling after an operand, if there is one.
-fn function_after(spelling: &[u8]) -> Option<u8>
-    ensures { result ≡ listed_from example_table After spelling.now 0 64 }
-{
-    match spelling {
-        b"later" => Some(1),
-        b"*" => Some(32),
-        b"+" => Some(35),
-        b"=" => Some(43),
-        b"^" => Some(46),
+    match (position, spelling) {
+        (Position::Before, b"not") => Some(0),
+        (Position::Before, b"-") => Some(2),
+        (Position::After, b"later") => Some(1),
+        (Position::After, b"*") => Some(32),
+        (Position::After, b"+") => Some(35),
+        (Position::After, b"=") => Some(43),
+        (Position::After, b"^") => Some(46),
         _ => None,
     }
 }
@@ -65,11 +55,7 @@ impl Notation for ExampleList {
         operator_of(function)
     }
 
-    fn before(&self, spelling: &[u8]) -> Option<u8> {
-        function_before(spelling)
-    }
-
-    fn after(&self, spelling: &[u8]) -> Option<u8> {
-        function_after(spelling)
+    fn listed(&self, position: Position, spelling: &[u8]) -> Option<u8> {
+        function_listed(position, spelling)
     }
 }

@@ -21,24 +21,6 @@ mod tests {
 
     const ROOM: usize = 8;
 
-    // What reading the text under the list of the worked examples answers and leaves.
-    #[derive(Drop)]
-    struct Left {
-        answer: Result<usize, Fault>,
-        rack: [Node; ROOM],
-        used: usize,
-    }
-
-    // Reads the text into a rack of which `used` nodes are in use.
-    fn read(reader: &mut Reader, mut rack: [Node; ROOM], used: usize, text: &[u8]) -> Left {
-        let mut fill = Fill {
-            used: used.min(ROOM),
-        };
-        let answer = reader.read(&mut rack, &mut fill, text, &ExampleList);
-        let Fill { used } = fill;
-        Left { answer, rack, used }
-    }
-
     fn function(function: u8, size: usize) -> Node {
         Node {
             item: Item::Function(function),
@@ -47,67 +29,68 @@ mod tests {
     }
 
     fn name(word: &[u8]) -> Node {
-        match Name::new(word) {
-            Some(name) => Node {
+        Name::new(word).map_or(
+            BLANK,
+            |name| Node {
                 item: Item::Name(name),
                 size: 1,
             },
-            None => BLANK,
-        }
+        )
     }
 
-    fn same_node(a: Node, b: Node) -> bool {
-        let same = match (a.item, b.item) {
-            (Item::Function(f), Item::Function(g)) => f == g,
-            (Item::Name(m), Item::Name(n)) => m.bytes == n.bytes,
-            _ => false,
-        };
-        same && a.size == b.size
-    }
-
-    // The text reads as a tree; the nodes in use are then these. `case` is told if they are not.
-    fn check_tree(
-        rt: &impl Abort,
-        reader: &mut Reader,
+    // A text that is read under the list of the worked examples into a rack of which `used` nodes are in use. `case` is
+    // told if anything else is answered or left than the example has.
+    #[derive(Drop)]
+    struct Example<'a> {
+        text: &'a [u8],
         rack: [Node; ROOM],
         used: usize,
-        text: &[u8],
-        nodes: &[Node],
-        case: &str,
-    ) -> Result<(), Fail> {
-        let Left { answer, rack, used } = read(reader, rack, used, text);
-        let Ok(root) = answer else {
-            return Err(Fail::new("refused"));
-        };
-        assert!(rt;
-            used == nodes.len() && used > root && used - root == 1,
-            "{case}"
-        );
-        for (node, other) in rack.iter().zip(nodes) {
-            assert!(rt; same_node(*node, *other), "{case}");
-        }
-        Ok(())
+        case: &'a str,
     }
 
-    // The text is refused with the number at the place, and the fill is put back. `case` is told if not.
-    fn check_fault(
-        rt: &impl Abort,
-        reader: &mut Reader,
-        used: usize,
-        text: &[u8],
-        number: u8,
-        place: usize,
-        case: &str,
-    ) -> Result<(), Fail> {
-        let left = read(reader, [BLANK; ROOM], used, text);
-        let Err(fault) = left.answer else {
-            return Err(Fail::new("accepted"));
-        };
-        assert_eq!(rt; fault.kind.letter(), b'R', "{case}");
-        assert_eq!(rt; fault.kind.number(), number, "{case}");
-        assert_eq!(rt; fault.place, place, "{case}");
-        assert_eq!(rt; left.used, used, "{case}");
-        Ok(())
+    impl Example<'_> {
+        // What reading it answers, the rack afterwards, and how many of its nodes are in use.
+        fn read(&self, reader: &mut Reader) -> (Result<usize, Fault>, [Node; ROOM], usize) {
+            let mut rack = self.rack;
+            let mut fill = Fill {
+                used: self.used.min(ROOM),
+            };
+            let answer = reader.read(&mut rack, &mut fill, self.text, &ExampleList);
+            (answer, rack, fill.used())
+        }
+
+        // The text reads as a tree; the nodes in use are then these.
+        fn check_tree(
+            &self,
+            rt: &impl Abort,
+            reader: &mut Reader,
+            nodes: &[Node],
+        ) -> Result<(), Fail> {
+            let (answer, rack, used) = self.read(reader);
+            let root = answer.map_err(|_| Fail::new("refused"))?;
+            assert!(rt; used > root && used - root == 1, "{}", self.case);
+            assert!(rt; &rack[..used.min(ROOM)] == nodes, "{}", self.case);
+            Ok(())
+        }
+
+        // The text is refused with the number at the place, and the fill is put back.
+        fn check_fault(
+            &self,
+            rt: &impl Abort,
+            reader: &mut Reader,
+            number: u8,
+            place: usize,
+        ) -> Result<(), Fail> {
+            let (answer, _, used) = self.read(reader);
+            let Err(fault) = answer else {
+                return Err(Fail::new("accepted"));
+            };
+            assert_eq!(rt; fault.kind.letter(), b'R', "{}", self.case);
+            assert_eq!(rt; fault.kind.number(), number, "{}", self.case);
+            assert_eq!(rt; fault.place, place, "{}", self.case);
+            assert_eq!(rt; used, self.used, "{}", self.case);
+            Ok(())
+        }
     }
 
     const REFUSED: [(&[u8], u8, usize); 13] = [
@@ -130,53 +113,38 @@ mod tests {
     fn refusals(rt: HostRuntime) -> Result<(), Fail> {
         let mut reader = Reader::new(rt.alloc())?;
         for (text, number, place) in REFUSED {
-            check_fault(
-                &rt,
-                &mut reader,
-                2,
-                text,
-                number,
-                place,
-                "behind nodes in use",
-            )?;
-            check_fault(
-                &rt,
-                &mut reader,
-                ROOM,
-                text,
-                number,
-                place,
-                "in a full rack",
-            )?;
+            for (used, case) in [(2, "behind nodes in use"), (ROOM, "in a full rack")] {
+                Example {
+                    text,
+                    rack: [BLANK; ROOM],
+                    used,
+                    case,
+                }
+                .check_fault(&rt, &mut reader, number, place)?;
+            }
         }
         let brackets = vec![in rt.alloc(); b')'; 4097]?;
-        check_fault(
-            &rt,
-            &mut reader,
-            2,
-            brackets.as_slice(),
-            20,
-            4096,
-            "too many bytes",
-        )?;
-        check_fault(
-            &rt,
-            &mut reader,
-            2,
-            &brackets.as_slice()[0..1025],
-            22,
-            1024,
-            "too many tokens",
-        )?;
-        check_fault(
-            &rt,
-            &mut reader,
-            6,
-            b"a+b",
-            30,
-            6,
-            "three nodes in two places",
-        )
+        Example {
+            text: brackets.as_slice(),
+            rack: [BLANK; ROOM],
+            used: 2,
+            case: "too many bytes",
+        }
+        .check_fault(&rt, &mut reader, 20, 4096)?;
+        Example {
+            text: &brackets.as_slice()[0..1025],
+            rack: [BLANK; ROOM],
+            used: 2,
+            case: "too many tokens",
+        }
+        .check_fault(&rt, &mut reader, 22, 1024)?;
+        Example {
+            text: b"a+b",
+            rack: [BLANK; ROOM],
+            used: 6,
+            case: "three nodes in two places",
+        }
+        .check_fault(&rt, &mut reader, 30, 6)
     }
 
     #[test]
@@ -184,34 +152,28 @@ mod tests {
         let (a, b, c) = (name(b"a"), name(b"b"), name(b"c"));
         let mut reader = Reader::new(rt.alloc())?;
         let nodes = [a, b, c, function(35, 3), function(0, 4), function(32, 6)];
-        check_tree(
-            &rt,
-            &mut reader,
-            [BLANK; ROOM],
-            0,
-            b"a*not b+c",
-            &nodes,
-            "a prefix operator",
-        )?;
+        Example {
+            text: b"a*not b+c",
+            rack: [BLANK; ROOM],
+            used: 0,
+            case: "a prefix operator",
+        }
+        .check_tree(&rt, &mut reader, &nodes)?;
         let nodes = [a, b, function(35, 3), function(1, 4), c, function(32, 6)];
-        check_tree(
-            &rt,
-            &mut reader,
-            [BLANK; ROOM],
-            0,
-            b"a+b later*c",
-            &nodes,
-            "a postfix operator",
-        )?;
+        Example {
+            text: b"a+b later*c",
+            rack: [BLANK; ROOM],
+            used: 0,
+            case: "a postfix operator",
+        }
+        .check_tree(&rt, &mut reader, &nodes)?;
         let nodes = [c, c, c, c, a, b, function(2, 2), function(46, 4)];
-        check_tree(
-            &rt,
-            &mut reader,
-            [c; ROOM],
-            4,
-            b"((a)^(-b))",
-            &nodes,
-            "behind nodes in use",
-        )
+        Example {
+            text: b"((a)^(-b))",
+            rack: [c; ROOM],
+            used: 4,
+            case: "behind nodes in use",
+        }
+        .check_tree(&rt, &mut reader, &nodes)
     }
 }

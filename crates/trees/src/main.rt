@@ -27,12 +27,13 @@ fn push_trees<N: Notation>(
     notation: &N,
 ) -> Result<(), AllocError> {
     let mut reader = Reader::new(heap)?;
-    let mut rack = vec![in heap; BLANK; RACK_NODES]?;
+    let mut nodes = vec![in heap; BLANK; RACK_NODES]?;
+    let rack = nodes.as_mut_slice();
     for line in expressions {
         let mut fill = Fill::new();
-        match reader.read(rack.as_mut_slice(), &mut fill, line.bytes, notation) {
-            Ok(root) => {
-                push_tree(out, rack.as_slice(), root)?;
+        match reader.read(rack, &mut fill, line.bytes, notation) {
+            Ok(_) => {
+                push_tree(out, &rack[..fill.used()])?;
                 out.extend_from_slice(b"\n")?;
             }
             Err(fault) => {

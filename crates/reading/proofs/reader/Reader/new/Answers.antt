@@ -1,7 +1,7 @@
-use Rattle.std.proofs.Common.{reverse, ap}
-use Rattle.reading.specs.Waiting.{waiting}
+use Rattle.std.proofs.Common.{ap}
+use Rattle.reading.specs.Waiting.{stacked}
 use Rattle.reading.proofs.reader.Reader.new.Goals as goal
 
 pub returns : goal.returns
-unfolding waiting
-returns c = ap reverse c.in_ok-pending.ensures.items
+unfolding stacked
+returns c = ap stacked c.in_ok-pending.ensures.items

@@ -1,8 +1,8 @@
-use Rattle.std.proofs.Common.{reverse, ap, ◌∙◌}
-use Rattle.reading.specs.Waiting.{waiting, first}
+use Rattle.std.proofs.Common.{ap, ◌∙◌}
+use Rattle.std.specs.Option.{option_map}
+use Rattle.reading.specs.Waiting.{waits_of, stacked, first}
 use Rattle.reading.proofs.Stacks.{topped}
 use Rattle.reading.proofs.reader.Reader.top.Goals as goal
 
 pub returns : goal.returns
-unfolding waiting
-returns c = c.copied.ensures ∙ topped _ _ c.last.ensures.item ∙ ap (λ l. first (reverse l)) c.as_slice.ensures.value
+returns c = ap (option_map waits_of) c.copied.ensures ∙ topped _ _ c.last.ensures.item ∙ ap (λ l. first (stacked l)) c.as_slice.ensures.value

@@ -1,6 +1,0 @@
-use Rattle.notation.specs.Tables.{listed}
-use Rattle.reading_tests.proofs.example_list.ExampleListNotation.before.Goals as goal
-
-pub returns : goal.returns
-unfolding listed
-returns c = c.function_before.ensures
