@@ -13,6 +13,7 @@ pub enum TokenKind {
 
 // A token of an expression: its bytes, borrowed from the expression, beside its place,
 // the number of bytes before it.
+// An enum, so that a match on a token names its kind and lends its bytes at once.
 #[derive(Clone, Copy)]
 pub enum Token<'a> {
     Word { place: usize, bytes: &'a [u8] },
