@@ -3,7 +3,7 @@ use Rattle.std.proofs.Common.{◌≡◌, ℕ, ◌+◌, ◌-◌, ◌<◌, true, n
 use Rattle.std.specs.Option.{option_eq}
 use Rattle.std.proofs.lemmas.Bool.{cases_lt}
 use Rattle.std.proofs.lemmas.Bool.Decides.{nat_tests}
-use Rattle.std.proofs.lemmas.List.{get_or-take, length-take-le}
+use Rattle.std.proofs.lemmas.List.{get_or-take, length-take, length-take-le}
 use Rattle.grammar.specs.Trees.{Tree}
 use Rattle.grammar.specs.Trees.Tree.{name, one, two}
 use Rattle.rack.specs.declared.node.Item.{Item}
@@ -75,13 +75,14 @@ other_size : (r : Option ℕ) (P : ℕ → Type 0) (n : ℕ) → MatchOption r (
 other_size None P n h same other p = h n p
 other_size (Some m) P n h same other p = let e : m ≡ n = same m h in grind (arith, nat_tests)
 
-pub unsound_here : (rack : List Node) (root i : ℕ) (r : Option ℕ) → root < length rack → i < root + 1 → let front = take i rack in let x = get_or (take (root + 1) rack) i blank in MatchOption r ((n : ℕ) → Heads front (length front) x.item n → ⊥) (λ n. Heads front (length front) x.item n) → true ≡ not (option_eq eqb r (Some x.size)) → Sound rack i → ⊥
-unsound_here rack root i r within lt h other sound =
+pub unsound_here : (rack : List Node) (n i : ℕ) (r : Option ℕ) → i < length (take n rack) → let front = take i rack in let x = get_or (take n rack) i blank in MatchOption r ((k : ℕ) → Heads front (length front) x.item k → ⊥) (λ k. Heads front (length front) x.item k) → true ≡ not (option_eq eqb r (Some x.size)) → Sound rack i → ⊥
+unsound_here rack n i r lt h other sound =
     let front = take i rack in
-    let x = get_or (take (root + 1) rack) i blank in
+    let x = get_or (take n rack) i blank in
+    let few = length-take n rack in
     let at : length front ≡ i = length-take-le i rack (omega arith) in
     let same = λ (k : ℕ) (less : k < i). ap (λ (y : Node). y.size) (sym (get_or-take i rack k blank less)) in
-    let here = heads_same rack front i same x.item x.size (subst (λ (y : Node). Heads rack i y.item y.size) (sym (get_or-take (root + 1) rack i blank lt)) sound) in
+    let here = heads_same rack front i same x.item x.size (subst (λ (y : Node). Heads rack i y.item y.size) (sym (get_or-take n rack i blank (omega arith))) sound) in
     let heads = subst (λ (k : ℕ). Heads front k x.item x.size) (sym at) here in
     other_size r (Heads front (length front) x.item) x.size h (λ k p. heads_one front (length front) x.item k x.size p heads) other heads
 
