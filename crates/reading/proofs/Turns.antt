@@ -8,7 +8,7 @@ use Rattle.rack.specs.declared.node.Node.{Node}
 use Rattle.reading.specs.Waiting.{Waits, first, rest, last_function}
 use Rattle.reading.specs.Waiting.Waits.{bracket, operator}
 use Rattle.reading.specs.Yard.{Site, site, shut, shut_at, taker_of, decided, covered, settled, unwound, covered_at, below, unwound_at, settled_at}
-use Rattle.reading.specs.Yard.Yard.{stands, refused}
+use Rattle.reading.specs.Yard.Yard.{stands}
 
 -- where an operator is on top, one thing less waits below it
 pub one_less : (k : List Waits) (f : ℕ) → last_function k ≡ Some f → length k ≡ length (rest k) + 1
@@ -54,16 +54,9 @@ module _ (mark : ℕ) where
   shut_bracket (bracket m ∷ k) w rack n e f = refl
   shut_bracket (operator g m ∷ k) w rack n e f = let z : ◌≡◌ {A = ℕ} 0 1 = cc in absurd (omega arith)
 
-  shut_nothing : (k : List Waits) (rack : List Node) (n : ℕ) → first k ≡ None → shut mark k rack n ≡ refused rack
-  shut_nothing [] rack n e = refl
-  shut_nothing (w ∷ k) rack n e = let z : ◌≡◌ {A = ℕ} 0 1 = cc in absurd (omega arith)
-
 -- `)` where something waits since all operators took their operands: it is a bracket
 pub shut_below : (s r : Site) (w : Waits) → r ≡ unwound_at s → first r.waiting ≡ Some w → shut_at r ≡ stands Operator (below r)
 shut_below s r w e f = shut_bracket r.mark r.waiting w r.rack r.next (ap (λ (v : Site). last_function v.waiting) e ∙ unwound_no_operator s.mark s.waiting s.rack s.next) f
-
-pub shut_none : (r : Site) → first r.waiting ≡ None → shut_at r ≡ refused r.rack
-shut_none r f = shut_nothing r.mark r.waiting r.rack r.next f
 
 pub unwound_more : (s : Site) (f : ℕ) → last_function s.waiting ≡ Some f → unwound_at s ≡ unwound_at (covered_at f (below s))
 unwound_more s f e = unwound_rest s.mark s.waiting f s.rack s.next e
