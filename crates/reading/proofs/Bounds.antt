@@ -11,12 +11,11 @@ use Rattle.grammar.specs.declared.due.Due.TheVariants.{Operand, Operator}
 use Rattle.grammar.specs.declared.taker.Taker.{Taker}
 use Rattle.grammar.specs.declared.taker.Taker.TheVariants.{Left, Right}
 use Rattle.grammar.specs.Machine.{is_name}
-use Rattle.grammar.specs.Neighbours.{taker}
 use Rattle.grammar.specs.Weights.{fixity_in, operator_in}
 use Rattle.rack.specs.declared.node.Node.{Node}
 use Rattle.reading.specs.Waiting.{Waits}
 use Rattle.reading.specs.Waiting.Waits.{bracket, operator}
-use Rattle.reading.specs.Yard.{Site, site, Yard, shut, decided, covered, unwound, unwound_at, shut_at, standing, begun, settled, settled_at, continued, operand_step, operator_step, step, run}
+use Rattle.reading.specs.Yard.{Site, site, Yard, shut, taker_of, decided, covered, unwound, unwound_at, shut_at, standing, begun, settled, settled_at, continued, operand_step, operator_step, step, run}
 use Rattle.reading.specs.Yard.Yard.{stands, refused}
 
 module _ (mark : ℕ) where
@@ -81,7 +80,7 @@ module _ (mark : ℕ) where
     settled_reaches high o [] rack n h = spans high [] rack n h
     settled_reaches high o (bracket m ∷ k) rack n h = spans high (bracket m ∷ k) rack n h
     settled_reaches high o (operator g m ∷ k) rack n h =
-        decided_reaches high (taker (operator_in t g) o) (settled mark t o k (covered mark g k rack n) (n + 1)) (site mark (operator g m ∷ k) rack n) (settled_reaches high o k (covered mark g k rack n) (n + 1) (omega arith)) (spans high (operator g m ∷ k) rack n h)
+        decided_reaches high (taker_of (t g) o) (settled mark t o k (covered mark g k rack n) (n + 1)) (site mark (operator g m ∷ k) rack n) (settled_reaches high o k (covered mark g k rack n) (n + 1) (omega arith)) (spans high (operator g m ∷ k) rack n h)
 
     pub settled_within : (high : ℕ) (o : Op) (s : Site) → Spans high s → Reaches high (settled_at t o s)
     settled_within high o s h = subst (λ m. Reaches high (settled m t o s.waiting s.rack s.next)) (sym h.marked) (settled_reaches high o s.waiting s.rack s.next h.few)

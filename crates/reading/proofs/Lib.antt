@@ -2,6 +2,7 @@ pub mod Agreement
 pub mod Bounds
 pub mod Deciding
 pub mod Endings
+pub mod Known
 pub mod NameTests
 pub mod Racks
 pub mod Sofar

@@ -2,7 +2,7 @@
 -- before. Assumes nothing.
 use Rattle.std.proofs.Common.{◌≡◌, ℕ, ◌+◌, ◌<◌, ◌≤◌, Bool, true, false, cond, ltb, ◌≢◌, List, [], ◌∷◌, ◌++◌, length, get_or, set, sym, refl, ap, ◌∙◌, ⊎_elim, arith}
 use Rattle.std.proofs.lemmas.List.{length-append, length_push, length-set, get_or-set_same, get_or-set_other, get_or_append_left, get_or_push}
-use Rattle.std.proofs.lemmas.Bool.{cases_lt, ltb-true, ltb-false, lt-ltb, le-ltb}
+use Rattle.std.proofs.lemmas.Bool.{cases_lt, ltb-true, ltb-false}
 use Rattle.grammar.specs.Trees.{Tree}
 use Rattle.grammar.specs.Trees.Tree.{name, one, two}
 use Rattle.rack.specs.declared.node.Node.{Node}
@@ -34,26 +34,12 @@ same_outside n m a b c le p q =
 pub nothing_changed : (n : ℕ) (rack : List Node) → SameOutside n rack rack
 nothing_changed n rack = record { below = record { long = refl; same = λ i d h. refl }; beyond = λ i d h. refl }
 
-module _ (rack : List Node) (n : ℕ) (node : Node) where
-  pub stored_here : n < room rack → stored rack n node ≡ set rack n node
-  stored_here lt = ap (λ (b : Bool). cond b (set rack n node) rack) (lt-ltb n (room rack) lt)
-
-  pub stored_nowhere : room rack ≤ n → stored rack n node ≡ rack
-  stored_nowhere le = ap (λ (b : Bool). cond b (set rack n node) rack) (le-ltb n (room rack) le)
-
-  set_outside : n < room rack → SameOutside n rack (set rack n node)
-  set_outside lt =
-      record {
-        below = record { long = length-set rack n node; same = λ i d h. let other : i ≢ n = omega arith in get_or-set_other rack n i node d other };
-        beyond = λ i d h. let other : i ≢ n = omega arith in get_or-set_other rack n i node d other;
-      }
-
-  outside_by : (b : Bool) → ltb n (room rack) ≡ b → SameOutside n rack (cond b (set rack n node) rack)
-  outside_by true e = set_outside (ltb-true n (room rack) e)
-  outside_by false e = nothing_changed n rack
-
-  pub stored_outside : SameOutside n rack (stored rack n node)
-  stored_outside = outside_by (ltb n (room rack)) refl
+set_outside : (rack : List Node) (n : ℕ) (node : Node) → n < room rack → SameOutside n rack (set rack n node)
+set_outside rack n node lt =
+    record {
+      below = record { long = length-set rack n node; same = λ i d h. let other : i ≢ n = omega arith in get_or-set_other rack n i node d other };
+      beyond = λ i d h. let other : i ≢ n = omega arith in get_or-set_other rack n i node d other;
+    }
 
 -- the rack was `old` and is `new`; the nodes `out` were put from `mark` on, and the next goes to n
 pub record Holding (old new : List Node) (mark n : ℕ) (out : List Node) : Type 0 where

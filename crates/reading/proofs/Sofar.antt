@@ -24,6 +24,7 @@ use Rattle.reading.specs.Outside.{SameOutside}
 use Rattle.reading.specs.Yard.{Site, site, Yard, finished, step, run}
 use Rattle.reading.specs.Yard.Yard.{stands, refused}
 use Rattle.reading.proofs.Bounds.{Spans, Within, run_within}
+use Rattle.reading.proofs.Known.{known}
 use Rattle.reading.proofs.Racks.{Holding}
 use Rattle.reading.proofs.Views.{Shows, Finishes, outcome_finishes, step_shows, shown}
 
@@ -120,7 +121,7 @@ module _ (t : Table) (text : List ℕ) (old : List Node) (mark : ℕ) where
       pub token_fails : (x : Placed) (rest : List Placed) → ahead ≡ x ∷ rest → (left : List Node) → refused left ≡ step t (stands d s) (lexeme x) → Answered t text (Err (fault (fault_at t d (lexeme x)) x.place)) × SameOutside mark old left
       unfolding state
       token_fails x rest next left fails =
-          let told = is_refused old mark (M.step t state (lexeme x)) (step t (reached h.done) (lexeme x)) left (step_shows old mark t state (reached h.done) (lexeme x) shows) (ap (λ (y : Yard). step t y (lexeme x)) h.at ∙ sym fails) in
+          let told = is_refused old mark (M.step t state (lexeme x)) (step t (reached h.done) (lexeme x)) left (step_shows old mark t state (reached h.done) (lexeme x) (known t (map lexeme h.done)) shows) (ap (λ (y : Yard). step t y (lexeme x)) h.at ∙ sym fails) in
           (answered_at t lawful text h.done x rest d (h.split ∙ ap (λ (l : List Placed). h.done ++ l) next) (unrefused old mark state (reached h.done) d s shows h.at) (tells old mark state (reached h.done) d s shows h.at) told.0, told.1)
 
       -- all tokens are done

@@ -4,13 +4,11 @@ use Rattle.notation.specs.Operators.{Op}
 use Rattle.notation.specs.Tables.{Table}
 use Rattle.grammar.specs.declared.due.Due.TheVariants.{Operator}
 use Rattle.grammar.specs.declared.taker.Taker.{Taker}
-use Rattle.grammar.specs.Neighbours.{taker}
-use Rattle.grammar.specs.Weights.{operator_in}
 use Rattle.rack.specs.declared.node.Node.{Node}
 use Rattle.reading.specs.Waiting.{Waits, first, rest, last_function}
 use Rattle.reading.specs.Waiting.Waits.{bracket, operator}
-use Rattle.reading.specs.Yard.{Site, site, shut, shut_at, decided, covered, settled, unwound, covered_at, below, unwound_at, settled_at}
-use Rattle.reading.specs.Yard.Yard.{stands, refused}
+use Rattle.reading.specs.Yard.{Site, site, shut, shut_at, taker_of, decided, covered, settled, unwound, covered_at, below, unwound_at, settled_at}
+use Rattle.reading.specs.Yard.Yard.{stands}
 
 -- where an operator is on top, one thing less waits below it
 pub one_less : (k : List Waits) (f : ℕ) → last_function k ≡ Some f → length k ≡ length (rest k) + 1
@@ -30,13 +28,13 @@ module _ (mark : ℕ) where
   unwound_here (bracket m ∷ k) rack n e = refl
   unwound_here (operator g m ∷ k) rack n e = let z : ◌≡◌ {A = ℕ} 0 1 = cc in absurd (omega arith)
 
-  settled_rest : (t : Table) (o : Op) (v : Option Taker) (k : List Waits) (f : ℕ) (rack : List Node) (n : ℕ) → last_function k ≡ Some f → v ≡ taker (operator_in t f) o → settled mark t o k rack n ≡ decided v (settled mark t o (rest k) (covered mark f (rest k) rack n) (n + 1)) (site mark k rack n)
+  settled_rest : (t : Table) (o : Op) (v : Option Taker) (k : List Waits) (f : ℕ) (rack : List Node) (n : ℕ) → last_function k ≡ Some f → v ≡ taker_of (t f) o → settled mark t o k rack n ≡ decided v (settled mark t o (rest k) (covered mark f (rest k) rack n) (n + 1)) (site mark k rack n)
   unfolding settled
   settled_rest t o v [] f rack n e d = let z : ◌≡◌ {A = ℕ} 0 1 = cc in absurd (omega arith)
   settled_rest t o v (bracket m ∷ k) f rack n e d = let z : ◌≡◌ {A = ℕ} 0 1 = cc in absurd (omega arith)
   settled_rest t o v (operator g m ∷ k) f rack n e d =
       let same : g ≡ f = cc in
-      ap (λ h. decided (taker (operator_in t h) o) (settled mark t o k (covered mark h k rack n) (n + 1)) (site mark (operator g m ∷ k) rack n)) same
+      ap (λ h. decided (taker_of (t h) o) (settled mark t o k (covered mark h k rack n) (n + 1)) (site mark (operator g m ∷ k) rack n)) same
       ∙ ap (λ (w : Option Taker). decided w (settled mark t o k (covered mark f k rack n) (n + 1)) (site mark (operator g m ∷ k) rack n)) (cc)
 
   settled_here : (t : Table) (o : Op) (k : List Waits) (rack : List Node) (n : ℕ) → last_function k ≡ None → settled mark t o k rack n ≡ Ok (site mark k rack n)
@@ -56,16 +54,9 @@ module _ (mark : ℕ) where
   shut_bracket (bracket m ∷ k) w rack n e f = refl
   shut_bracket (operator g m ∷ k) w rack n e f = let z : ◌≡◌ {A = ℕ} 0 1 = cc in absurd (omega arith)
 
-  shut_nothing : (k : List Waits) (rack : List Node) (n : ℕ) → first k ≡ None → shut mark k rack n ≡ refused rack
-  shut_nothing [] rack n e = refl
-  shut_nothing (w ∷ k) rack n e = let z : ◌≡◌ {A = ℕ} 0 1 = cc in absurd (omega arith)
-
 -- `)` where something waits since all operators took their operands: it is a bracket
 pub shut_below : (s r : Site) (w : Waits) → r ≡ unwound_at s → first r.waiting ≡ Some w → shut_at r ≡ stands Operator (below r)
 shut_below s r w e f = shut_bracket r.mark r.waiting w r.rack r.next (ap (λ (v : Site). last_function v.waiting) e ∙ unwound_no_operator s.mark s.waiting s.rack s.next) f
-
-pub shut_none : (r : Site) → first r.waiting ≡ None → shut_at r ≡ refused r.rack
-shut_none r f = shut_nothing r.mark r.waiting r.rack r.next f
 
 pub unwound_more : (s : Site) (f : ℕ) → last_function s.waiting ≡ Some f → unwound_at s ≡ unwound_at (covered_at f (below s))
 unwound_more s f e = unwound_rest s.mark s.waiting f s.rack s.next e
@@ -74,7 +65,7 @@ pub unwound_end : (s : Site) → last_function s.waiting ≡ None → unwound_at
 unwound_end s e = unwound_here s.mark s.waiting s.rack s.next e
 
 -- the operator on top, by who takes the operand
-pub settled_by : (t : Table) (o : Op) (v : Option Taker) (s : Site) (f : ℕ) → last_function s.waiting ≡ Some f → v ≡ taker (operator_in t f) o → settled_at t o s ≡ decided v (settled_at t o (covered_at f (below s))) s
+pub settled_by : (t : Table) (o : Op) (v : Option Taker) (s : Site) (f : ℕ) → last_function s.waiting ≡ Some f → v ≡ taker_of (t f) o → settled_at t o s ≡ decided v (settled_at t o (covered_at f (below s))) s
 settled_by t o v s f e d = settled_rest s.mark t o v s.waiting f s.rack s.next e d
 
 pub settled_end : (t : Table) (o : Op) (s : Site) → last_function s.waiting ≡ None → settled_at t o s ≡ Ok s

@@ -5,7 +5,7 @@ use Rattle.tokens.specs.declared.token.TokenKind.{TokenKind}
 use Rattle.tokens.specs.declared.token.TokenKind.TheVariants.{Word, Symbol, Open, Close}
 use Rattle.tokens.specs.Tokens.{Lexeme}
 use Rattle.notation.specs.declared.form.Position.TheVariants.{Before, After}
-use Rattle.notation.specs.Operators.{Fixity}
+use Rattle.notation.specs.Operators.{Op, Fixity}
 use Rattle.notation.specs.Operators.Fixity.{prefix, postfix, between}
 use Rattle.notation.specs.Tables.{Table, listed}
 use Rattle.grammar.specs.declared.due.Due.TheVariants.{Operand, Operator}
@@ -19,14 +19,15 @@ use Rattle.grammar.specs.Machine.Pending.{prefixing, infixing}
 use Rattle.grammar.specs.Machine.Frame.{bracket, pending}
 use Rattle.grammar.specs.Machine.State.{operand_due, operator_due}
 use Rattle.grammar.specs.Neighbours.{taker}
-use Rattle.grammar.specs.Weights.{fixity_in, operator_in}
+use Rattle.grammar.specs.Weights.{fixity_in, or_absent, operator_in}
 use Rattle.rack.specs.declared.node.Node.{Node}
 use Rattle.rack.specs.Nodes.{size, function_node, name_node, nodes_of}
 use Rattle.reading.specs.Outside.{SameOutside}
 use Rattle.reading.specs.Waiting.{Waits, begins}
 use Rattle.reading.specs.Waiting as P
-use Rattle.reading.specs.Yard.{Site, site, Yard, shut_at, over_at, decided, covered, unwound, finished, standing, begun, settled, continued, operand_step, operator_step, step, run}
+use Rattle.reading.specs.Yard.{Site, site, Yard, shut_at, over_at, taker_of, decided, covered, unwound, finished, standing, begun, settled, continued, operand_step, operator_step, step, run}
 use Rattle.reading.specs.Yard.Yard.{stands, refused}
+use Rattle.reading.proofs.Known.{Known, KnownIn, step_known}
 use Rattle.reading.proofs.Racks.{length-nodes, Holding, nothing_put, one_put}
 
 -- the nodes that were put for what is not finished, and those with a finished tree after them
@@ -131,20 +132,23 @@ module _ (old : List Node) (mark : ℕ) where
   begun_shows w None false k rack n h = (rack, refl, h.outside)
 
   module _ (t : Table) where
-    settled_shows : (f : ℕ) (before : List Node) (k : List Frame) (b : Bracketed) (rack : List Node) (n : ℕ) → SameOutside mark old before → AtOperator k b rack n → Shows (M.settled t f k b) (standing (fixity_in t f) f before (settled mark t (operator_in t f) (waits k) rack n))
-    unfolding settled
-    settled_shows f before [] b rack n o h = standing_shows (fixity_in t f) f before [] b rack n o h
-    settled_shows f before (bracket ∷ k) b rack n o h = standing_shows (fixity_in t f) f before (bracket ∷ k) b rack n o h
-    settled_shows f before (pending (prefixing g) ∷ k) b rack n o h =
-        decided_shows (taker (operator_in t g) (operator_in t f)) (fixity_in t f) f _ _ before _ _ o h.outside (settled_shows f before k (prefixed g b) _ _ o (one_after g k b rack n h))
-        (standing_shows (fixity_in t f) f before (pending (prefixing g) ∷ k) b rack n o h)
-    settled_shows f before (pending (infixing g a) ∷ k) b rack n o h =
-        decided_shows (taker (operator_in t g) (operator_in t f)) (fixity_in t f) f _ _ before _ _ o h.outside (settled_shows f before k (infixed g a b) _ _ o (two_after g a k b rack n h))
-        (standing_shows (fixity_in t f) f before (pending (infixing g a) ∷ k) b rack n o h)
+    -- the operator that waits is known, so that the two machines decide alike
+    known_shows : (r : Option Op) (u : Op) (f : ℕ) (s m : State) (before : List Node) (further : Result Site (List Node)) (here : Site) → r ≡ Some u → SameOutside mark old before → SameOutside mark old here.rack → Shows s (standing (fixity_in t f) f before further) → Shows m (standing (fixity_in t f) f before (Ok here)) → Shows (M.decided (taker (or_absent r) (operator_in t f)) s m) (standing (fixity_in t f) f before (decided (taker_of r (operator_in t f)) further here))
+    known_shows None u f s m before further here e o h p q = let z : ◌≡◌ {A = ℕ} 0 1 = cc in absurd (omega arith)
+    known_shows (Some v) u f s m before further here e o h p q = decided_shows (taker v (operator_in t f)) (fixity_in t f) f s m before further here o h p q
 
-    continued_shows : (o : Option ℕ) (k : List Frame) (b : Bracketed) (rack : List Node) (n : ℕ) → AtOperator k b rack n → Shows (M.continued t o k b) (continued t o (site mark (waits k) rack n))
-    continued_shows (Some f) k b rack n h = settled_shows f rack k b rack n h.outside h
-    continued_shows None k b rack n h = (rack, refl, h.outside)
+    settled_shows : (f : ℕ) (before : List Node) (k : List Frame) (b : Bracketed) (rack : List Node) (n : ℕ) → Known t k → SameOutside mark old before → AtOperator k b rack n → Shows (M.settled t f k b) (standing (fixity_in t f) f before (settled mark t (operator_in t f) (waits k) rack n))
+    unfolding settled
+    settled_shows f before [] b rack n w o h = standing_shows (fixity_in t f) f before [] b rack n o h
+    settled_shows f before (bracket ∷ k) b rack n w o h = standing_shows (fixity_in t f) f before (bracket ∷ k) b rack n o h
+    settled_shows f before (pending (prefixing g) ∷ k) b rack n w o h =
+        known_shows (t g) w.0 f _ _ before _ _ w.1 o h.outside (settled_shows f before k (prefixed g b) _ _ w.2 o (one_after g k b rack n h)) (standing_shows (fixity_in t f) f before (pending (prefixing g) ∷ k) b rack n o h)
+    settled_shows f before (pending (infixing g a) ∷ k) b rack n w o h =
+        known_shows (t g) w.0 f _ _ before _ _ w.1 o h.outside (settled_shows f before k (infixed g a b) _ _ w.2 o (two_after g a k b rack n h)) (standing_shows (fixity_in t f) f before (pending (infixing g a) ∷ k) b rack n o h)
+
+    continued_shows : (o : Option ℕ) (k : List Frame) (b : Bracketed) (rack : List Node) (n : ℕ) → Known t k → AtOperator k b rack n → Shows (M.continued t o k b) (continued t o (site mark (waits k) rack n))
+    continued_shows (Some f) k b rack n w h = settled_shows f rack k b rack n w h.outside h
+    continued_shows None k b rack n w h = (rack, refl, h.outside)
 
     operand_shows : (kind : TokenKind) (w : List ℕ) (k : List Frame) (rack : List Node) (n : ℕ) → AtOperand k rack n → Shows (M.operand_step t kind w k) (operand_step t kind w (site mark (waits k) rack n))
     operand_shows Word w k rack n h = begun_shows w (listed t Before w) (is_name t w) k rack n h
@@ -152,24 +156,24 @@ module _ (old : List Node) (mark : ℕ) where
     operand_shows Open w k rack n h = (rack, n, ap (λ m. stands Operand (site mark (P.bracket m ∷ waits k) rack n)) h.next, h)
     operand_shows Close w k rack n h = (rack, refl, h.outside)
 
-    operator_shows : (kind : TokenKind) (w : List ℕ) (k : List Frame) (b : Bracketed) (rack : List Node) (n : ℕ) → AtOperator k b rack n → Shows (M.operator_step t kind w k b) (operator_step t kind w (site mark (waits k) rack n))
-    operator_shows Word w k b rack n h = continued_shows (listed t After w) k b rack n h
-    operator_shows Symbol w k b rack n h = continued_shows (listed t After w) k b rack n h
-    operator_shows Open w k b rack n h = (rack, refl, h.outside)
-    operator_shows Close w k b rack n h = closed_shows k b rack n h
+    operator_shows : (kind : TokenKind) (w : List ℕ) (k : List Frame) (b : Bracketed) (rack : List Node) (n : ℕ) → Known t k → AtOperator k b rack n → Shows (M.operator_step t kind w k b) (operator_step t kind w (site mark (waits k) rack n))
+    operator_shows Word w k b rack n g h = continued_shows (listed t After w) k b rack n g h
+    operator_shows Symbol w k b rack n g h = continued_shows (listed t After w) k b rack n g h
+    operator_shows Open w k b rack n g h = (rack, refl, h.outside)
+    operator_shows Close w k b rack n g h = closed_shows k b rack n h
 
-    pub step_shows : (st : State) (y : Yard) (x : Lexeme) → Shows st y → Shows (M.step t st x) (step t y x)
-    step_shows (operand_due k) y x (rack, n, e, h) =
+    pub step_shows : (st : State) (y : Yard) (x : Lexeme) → KnownIn t st → Shows st y → Shows (M.step t st x) (step t y x)
+    step_shows (operand_due k) y x w (rack, n, e, h) =
         subst (λ (z : Yard). Shows (M.operand_step t x.kind x.bytes k) (step t z x)) (sym e) (operand_shows x.kind x.bytes k rack n h)
-    step_shows (operator_due k b) y x (rack, n, e, h) =
-        subst (λ (z : Yard). Shows (M.operator_step t x.kind x.bytes k b) (step t z x)) (sym e) (operator_shows x.kind x.bytes k b rack n h)
-    step_shows M.refused y x (rack, e, h) = (rack, ap (λ (z : Yard). step t z x) e, h)
+    step_shows (operator_due k b) y x w (rack, n, e, h) =
+        subst (λ (z : Yard). Shows (M.operator_step t x.kind x.bytes k b) (step t z x)) (sym e) (operator_shows x.kind x.bytes k b rack n w h)
+    step_shows M.refused y x w (rack, e, h) = (rack, ap (λ (z : Yard). step t z x) e, h)
 
-    run_shows : (xs : List Lexeme) (st : State) (y : Yard) → Shows st y → Shows (M.run t st xs) (run t y xs)
+    run_shows : (xs : List Lexeme) (st : State) (y : Yard) → KnownIn t st → Shows st y → Shows (M.run t st xs) (run t y xs)
     unfolding run
-    run_shows [] st y h = h
-    run_shows (x ∷ xs) st y h = run_shows xs (M.step t st x) (step t y x) (step_shows st y x h)
+    run_shows [] st y w h = h
+    run_shows (x ∷ xs) st y w h = run_shows xs (M.step t st x) (step t y x) (step_known t st x w) (step_shows st y x w h)
 
     -- from the start
     pub shown : (xs : List Lexeme) → Shows (M.run t M.start xs) (run t (stands Operand (site mark [] old mark)) xs)
-    shown xs = run_shows xs M.start (stands Operand (site mark [] old mark)) (old, mark, refl, nothing_put old mark)
+    shown xs = run_shows xs M.start (stands Operand (site mark [] old mark)) tt (old, mark, refl, nothing_put old mark)

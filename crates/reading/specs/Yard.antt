@@ -40,6 +40,11 @@ pub data Yard : Type 0 where
 abbrev pub stored : List Node → ℕ → Node → List Node
 stored rack n node = cond (nat_lt n (room rack)) (slice_set rack n node) rack
 
+-- who takes the operand between an operator and the next one; where there is no operator, neither may
+abbrev pub taker_of : Option Op → Op → Option Taker
+taker_of (Some u) o = taker u o
+taker_of None o = None
+
 -- the left neighbour takes the operand and the right one goes on, or the right one takes it here, or neither may
 abbrev pub decided : Option Taker → Result Site (List Node) → Site → Result Site (List Node)
 decided (Some Left) further here = further
@@ -72,7 +77,7 @@ module _ (mark : ℕ) where
   unfoldable pub settled : Table → Op → List Waits → List Node → ℕ → Result Site (List Node)
   settled t o [] rack n = Ok (site mark [] rack n)
   settled t o (bracket m ∷ k) rack n = Ok (site mark (bracket m ∷ k) rack n)
-  settled t o (operator f m ∷ k) rack n = decided (taker (operator_in t f) o) (settled t o k (covered f k rack n) (n + 1)) (site mark (operator f m ∷ k) rack n)
+  settled t o (operator f m ∷ k) rack n = decided (taker_of (t f) o) (settled t o k (covered f k rack n) (n + 1)) (site mark (operator f m ∷ k) rack n)
 
 -- The same at a site.
 abbrev pub added : Node → Site → Site

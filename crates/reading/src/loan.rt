@@ -14,7 +14,7 @@ impl Drop for FillLoan<'_> {
         requires { self.back ≤ 4096 }
         ensures { self.exit.0.now.used ≡ self.entry.back }
     {
-        self.fill.used = self.back;
-        let FillLoan { fill: _, back: _ } = self;
+        let FillLoan { fill, back } = self;
+        fill.used = back;
     }
 }

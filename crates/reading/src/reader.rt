@@ -11,6 +11,8 @@ pub(crate) struct Pending {
 }
 
 // Reads expressions as trees and puts these into racks. No call wants memory once the reader is made.
+// The rack is lent to each call: a struct with facts of its own may not hold a `&mut`. That there is room for one
+// token more is asked by the calls that take one, and is no fact of the type: after the last token there is none.
 #[derive(Drop)]
 pub struct Reader {
     // What waits, the latest last.

@@ -23,13 +23,13 @@ fn fault_for_operator<N: Notation>(notation: &N, token: Token<'_>) -> FaultKind
     ensures { result ≡ fault_for_operator (N.table notation.now) (placed token.entry).kind (placed token.entry).bytes }
 {
     match token {
-        Token::Word { bytes, .. } | Token::Symbol { bytes, .. } => match notation.listed(
-            Position::After,
-            bytes,
-        ) {
-            Some(_) => FaultKind::PriorityClash,
-            None => FaultKind::OperatorExpected,
-        },
+        Token::Word { bytes, .. } | Token::Symbol { bytes, .. } => {
+            if notation.listed(Position::After, bytes).is_some() {
+                FaultKind::PriorityClash
+            } else {
+                FaultKind::OperatorExpected
+            }
+        }
         Token::Open { .. } => FaultKind::OperatorExpected,
         Token::Close { .. } => FaultKind::UnmatchedBracket,
     }

@@ -55,7 +55,7 @@ impl Reader {
     pub(crate) fn top(&self) -> Option<Pending>
         ensures { option_map waits_of result ≡ first (waiting self.now) }
     {
-        self.pending.as_slice().last().copied()
+        self.pending.last().copied()
     }
 
     // The function of the operator on top, or none if a bracket or nothing is there.

@@ -5,4 +5,4 @@ use Rattle.reading.proofs.Stacks.{topped}
 use Rattle.reading.proofs.reader.Reader.top.Goals as goal
 
 pub returns : goal.returns
-returns c = ap (option_map waits_of) c.copied.ensures ∙ topped _ _ c.last.ensures.item ∙ ap (λ l. first (stacked l)) c.as_slice.ensures.value
+returns c = ap (option_map waits_of) c.copied.ensures ∙ topped _ _ c.last.ensures.item ∙ ap (λ l. first (stacked l)) c.deref.ensures.value
