@@ -1,9 +1,9 @@
 -- What a text begins with: separators, which are passed over, and a run of one kind or a bracket, which is its first token.
-use Rattle.std.proofs.Common.{◌≡◌, ℕ, suc, ◌+◌, ◌-◌, ◌<◌, ◌≤◌, Bool, true, false, Option, List, [], ◌∷◌, ◌≢◌, length, get_or, take, drop, slice_get, Some, None, sym, refl, ap, ◌∙◌, subst, ⊎_elim, arith}
+use Rattle.std.proofs.Common.{◌≡◌, ℕ, suc, ◌+◌, ◌<◌, ◌≤◌, Bool, true, false, Option, List, [], ◌∷◌, ◌≢◌, length, take, drop, slice_get, Some, None, sym, refl, ap, ◌∙◌, subst, ⊎_elim, arith}
 use Rattle.std.specs.List.{AllByRecursion, prefix_len}
 use Rattle.std.specs.Option.{option_eq, IfSome}
-use Rattle.std.proofs.ByRecursion.{All-more, All-weaker}
-use Rattle.std.proofs.lemmas.List.{take-append-drop, length-take-le, length-drop, drop_more, drop_all, nil_from_length, get_or-drop, get_or-take}
+use Rattle.std.proofs.ByRecursion.{All-weaker}
+use Rattle.std.proofs.lemmas.List.{take-append-drop, length-take-le, drop_more, drop_all, nil_from_length, get_or-take}
 use Rattle.std.proofs.lemmas.Bool.{both_ways, cases_lt, false≢true, true≢false}
 use Rattle.std.proofs.lemmas.List.Elements.{recursion_from_All}
 use Rattle.std.proofs.lemmas.List.Folds.{length-prefix_len}
@@ -13,16 +13,6 @@ use Rattle.tokens.specs.contracts.token.TokenKind.{the_type}
 use Rattle.tokens.specs.declared.token.TokenKind.{TokenKind}
 use Rattle.tokens.specs.Tokens.{kind_of, together, tokens_from, Separator, Longest}
 use Rattle.tokens.proofs.Cuts.{token, first_token, after_gap, no_tokens, none_separator}
-
-pub alike_none : (P : ℕ → Type 0) (text : List ℕ) (from : ℕ) → AllByRecursion P (take (from - from) (drop from text))
-alike_none P text from = let e : 0 ≡ from - from = omega arith in subst (λ n. AllByRecursion P (take n (drop from text))) e tt
-
-pub alike_more : (P : ℕ → Type 0) (text : List ℕ) (from end : ℕ) → from ≤ end → end < length text → AllByRecursion P (take (end - from) (drop from text)) → P (get_or text end 0) → AllByRecursion P (take (end + 1 - from) (drop from text))
-alike_more P text from end h lt all here =
-    let on : end - from + 1 ≡ end + 1 - from = omega arith in
-    let at : from + (end - from) ≡ end = omega arith in
-    let inside : end - from < length (drop from text) = omega (arith, length-drop from text) in
-    subst (λ n. AllByRecursion P (take n (drop from text))) on (All-more P (drop from text) (end - from) 0 inside all (subst P (sym (get_or-drop from text (end - from) 0 ∙ ap (λ i. get_or text i 0) at)) here))
 
 -- the byte is of this kind, as the code compares the two
 abbrev pub is_of : Option TokenKind → ℕ → Bool

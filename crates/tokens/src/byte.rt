@@ -17,7 +17,7 @@ pub enum ByteClass {
 }
 
 impl ByteClass {
-    // The class of the byte.
+    // The class of the byte. The characters are written out, as in the rules, so that the one can be read beside the other.
     pub fn of(byte: u8) -> ByteClass
         ensures { result ≡ class_of byte }
     {
