@@ -47,6 +47,9 @@ abbrev pub is_listed : Position → List ℕ → Option Op → Bool
 is_listed p s None = false
 is_listed p s (Some o) = same_position (position_of o.form) p && bytes_eq o.spelling s
 
--- the first that is so listed
+-- the first of the n functions from f on that is so listed
+abbrev pub listed_from : Table → Position → List ℕ → ℕ → ℕ → Option ℕ
+listed_from t p s f n = find (λ g. is_listed p s (t g)) (range_with_len f n)
+
 unfoldable pub listed : Table → Position → List ℕ → Option ℕ
-listed t p s = find (λ f. is_listed p s (t f)) (range_with_len 0 64)
+listed t p s = listed_from t p s 0 64
