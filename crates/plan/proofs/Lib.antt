@@ -1,8 +1,10 @@
 pub mod Fronts
+pub mod LawfulSections
 pub mod Outputs
 pub mod Parts
 pub mod Counts
 pub mod PlanAhead
 pub mod Sectioning
 pub mod Splits
+pub mod Unpassed
 pub mod Whole

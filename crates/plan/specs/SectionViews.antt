@@ -8,7 +8,7 @@ use Rattle.plan.specs.declared.input_fault.InputFault.{InputFault}
 use Rattle.plan.specs.declared.numbered_lines.NumberedLines.{NumberedLines}
 use Rattle.plan.specs.AnyNotations.{any_table}
 use Rattle.plan.specs.NumberedAhead.{numbered_ahead}
-use Rattle.plan.specs.Sections.{Sectioned, section}
+use Rattle.plan.specs.Sections.{Sectioned, Both, section}
 
 -- the list that was read, and the lines that are left
 abbrev pub list_read : Result SealedList InputFault → NumberedLines → Sectioned
@@ -19,7 +19,7 @@ abbrev pub notation_read : Result AnyNotation InputFault → NumberedLines → S
 notation_read (Ok n) lines = Ok (section (any_table n) (numbered_ahead lines) lines.count)
 notation_read (Err e) lines = Err e
 
--- the second of the two notations
-abbrev pub second_read : Result Notations InputFault → NumberedLines → Sectioned
-second_read (Ok n) lines = Ok (section (any_table n.into) (numbered_ahead lines) lines.count)
-second_read (Err e) lines = Err e
+-- both notations
+abbrev pub both_read : Result Notations InputFault → NumberedLines → Result Both InputFault
+both_read (Ok n) lines = Ok (record { first = any_table n.from; second = section (any_table n.into) (numbered_ahead lines) lines.count })
+both_read (Err e) lines = Err e

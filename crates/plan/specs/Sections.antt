@@ -49,10 +49,19 @@ Notation n (l ∷ ls) r =
     (If (l ≡ codes "declared") (Declarations empty_table (n + 1) ls) (λ s. s ≡ Err (malformed (n + 1))))
     r
 
--- Two notations, one after the other, after n lines of the input: what the second comes to, or the fault of the first.
-abbrev pub Second : Sectioned → Sectioned → Type 0
-Second (Ok s) r = Notation s.count s.rest r
-Second (Err e) r = r ≡ Err e
+-- two notations that were read, one after the other: the table of the first, and what was read of the second
+pub record Both : Type 0 where
+  pub first : Table
+  pub second : Section
 
-abbrev pub TwoNotations : ℕ → List (List ℕ) → Sectioned → Type 0
-TwoNotations n ls r = (first : Sectioned) × Notation n ls first × Second first r
+-- Two notations, one after the other, after n lines of the input: both, or the fault of the first that is refused.
+abbrev pub Second : Section → Sectioned → Result Both InputFault → Type 0
+Second s (Ok u) r = r ≡ Ok (record { first = s.table; second = u })
+Second s (Err e) r = r ≡ Err e
+
+abbrev pub First : Sectioned → Result Both InputFault → Type 0
+First (Ok s) r = (second : Sectioned) × Notation s.count s.rest second × Second s second r
+First (Err e) r = r ≡ Err e
+
+abbrev pub TwoNotations : ℕ → List (List ℕ) → Result Both InputFault → Type 0
+TwoNotations n ls r = (first : Sectioned) × Notation n ls first × First first r

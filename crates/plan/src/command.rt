@@ -1,16 +1,15 @@
 // The command: from a line to what it becomes, and from the whole input to the whole output.
 ghost use Rattle.std.specs.Prelude.{◌≡◌, ℕ, ◌+◌, ◌≤◌, true, List, ◌∷◌, ◌++◌, length, is_ok, IfOk, vec_len, vec_capacity, MatchResult, OnOk};
 ghost use Rattle.tokens.specs.InOrder.{Only};
-ghost use Rattle.tokens.specs.Limits.{WithinLimits};
 ghost use Rattle.tokens.specs.Spacing.{respaced, pairs_of};
 ghost use Rattle.plan.specs.Appends.{Appended, WithinRoom};
 ghost use Rattle.plan.specs.Command.{Output};
 ghost use Rattle.plan.specs.InputLines.{counted_lines};
 ghost use Rattle.plan.specs.NumberedAhead.{numbered_ahead};
-ghost use Rattle.plan.specs.Plans.{begins_tail, LineFault, ComesOut, ComesOutAs, up_to_tail, PlanOutput, room_for};
+ghost use Rattle.plan.specs.Plans.{begins_tail, ComesOutAs, up_to_tail, PlanOutput, room_for};
 ghost use Rattle.plan.specs.Sections.{TwoNotations};
-ghost use Rattle.plan.specs.SectionViews.{second_read};
-ghost use Rattle.plan.specs.PlanLines.{IsPlanLine};
+ghost use Rattle.plan.specs.SectionViews.{both_read};
+ghost use Rattle.plan.specs.AnyNotations.{any_table};
 ghost use Rattle.plan.specs.Reports.{line_end};
 
 use crate::any_notation::AnyNotation;
@@ -21,17 +20,10 @@ use crate::plan_line::PlanLine;
 use crate::report::{push_fault_line, push_tail};
 use crate::sections::read_notation;
 use crate::tally::Tally;
+use crate::workspace::Workspace;
+use notation::Notation;
 use std::alloc::AllocError;
-use tokens::{Fault, check_expression, push_respaced};
-
-// Takes a line apart, and refuses one that is no plan line or whose expression passes a limit.
-fn check_line(line: &[u8]) -> Result<PlanLine<'_>, Fault>
-    ensures { MatchResult result (λ p. IsPlanLine line.now p.digits.now p.expression.now × WithinLimits p.expression.now) (LineFault line.now) }
-{
-    let plan_line = PlanLine::parse(line)?;
-    check_expression(plan_line.expression)?;
-    Ok(plan_line)
-}
+use tokens::push_respaced;
 
 // Appends the digits, a tab, the expression by the spacing rule, and a line end; answers the pairs.
 fn push_plan_line(out: &mut Vec<u8>, line: PlanLine<'_>) -> Result<usize, AllocError>
@@ -49,13 +41,18 @@ fn push_plan_line(out: &mut Vec<u8>, line: PlanLine<'_>) -> Result<usize, AllocE
     Ok(pairs)
 }
 
-// Appends what the line of the input becomes: the line by the spacing rule, or a fault line.
+// Appends what the line of the input becomes under the notation: the line by the spacing rule, or a fault line.
 // Without the memory for it `out` stays as it is.
-pub fn translate_line(out: &mut Vec<u8>, line: NumberedLine<'_>) -> Result<Outcome, AllocError>
-    ensures answer { MatchResult result (λ o. (bytes : List ℕ) × (out.new.items ≡ out.old.items ++ bytes) × Only (ComesOutAs line.entry.number line.entry.bytes.now) (record { outcome = o; bytes = bytes })) (λ _. out.new.items ≡ out.old.items) }
+pub fn translate_line<N: Notation>(
+    work: &mut Workspace,
+    out: &mut Vec<u8>,
+    line: NumberedLine<'_>,
+    notation: &N,
+) -> Result<Outcome, AllocError>
+    ensures answer { MatchResult result (λ o. (bytes : List ℕ) × (out.new.items ≡ out.old.items ++ bytes) × Only (ComesOutAs (N.table notation.now) line.entry.number line.entry.bytes.now) (record { outcome = o; bytes = bytes })) (λ _. out.new.items ≡ out.old.items) }
     ensures room { WithinRoom (length line.entry.bytes.now + 65) out.old out.new result }
 {
-    match check_line(line.bytes) {
+    match work.read_line(line.bytes, notation) {
         Ok(plan_line) => Ok(Ok(push_plan_line(out, plan_line)?)),
         Err(fault) => {
             let refused = InputFault {
@@ -76,13 +73,18 @@ fn begins_tail(line: &[u8]) -> bool
 }
 
 // Appends what each line of the plan becomes, up to one that begins its tail, and then the tail of the output.
-fn translate_plan(out: &mut Vec<u8>, lines: NumberedLines<'_>) -> Result<(), AllocError>
-    ensures answer { (added : List ℕ) × (out.new.items ≡ out.old.items ++ added) × OnOk result (PlanOutput lines.entry.count (up_to_tail (numbered_ahead lines.entry)) added) }
+fn translate_plan(
+    work: &mut Workspace,
+    out: &mut Vec<u8>,
+    lines: NumberedLines<'_>,
+    notation: &AnyNotation,
+) -> Result<(), AllocError>
+    ensures answer { (added : List ℕ) × (out.new.items ≡ out.old.items ++ added) × OnOk result (PlanOutput (any_table notation.now) lines.entry.count (up_to_tail (numbered_ahead lines.entry)) added) }
     ensures succeeds { vec_len out.old + room_for (up_to_tail (numbered_ahead lines.entry)) ≤ vec_capacity out.old → is_ok result ≡ true }
 {
     let mut tally = Tally::default();
     for line in lines.take_while(|line| !begins_tail(line.bytes)) {
-        let outcome = translate_line(out, line)?;
+        let outcome = translate_line(work, out, line, notation)?;
         tally.count(outcome);
     }
     push_tail(out, tally)
@@ -97,7 +99,7 @@ struct Notations {
 
 // Reads the two notations, or tells the first line that may not stand there, and why.
 fn read_notations(lines: &mut NumberedLines<'_>) -> Result<Notations, InputFault>
-    ensures { TwoNotations lines.old.count (numbered_ahead lines.old) (second_read result lines.new) }
+    ensures { TwoNotations lines.old.count (numbered_ahead lines.old) (both_read result lines.new) }
 {
     let from = read_notation(lines)?;
     let into = read_notation(lines)?;
@@ -105,25 +107,29 @@ fn read_notations(lines: &mut NumberedLines<'_>) -> Result<Notations, InputFault
 }
 
 // Appends what comes after the notations that the input begins with, or the fault line of the first that is refused.
-fn translate_input(out: &mut Vec<u8>, input: &[u8]) -> Result<(), AllocError>
+fn translate_input(
+    work: &mut Workspace,
+    out: &mut Vec<u8>,
+    input: &[u8],
+) -> Result<(), AllocError>
     ensures answer { (added : List ℕ) × (out.new.items ≡ out.old.items ++ added) × OnOk result (Output input.now added) }
     ensures succeeds { vec_len out.old + room_for (counted_lines input.now) ≤ vec_capacity out.old → is_ok result ≡ true }
 {
     let mut lines = NumberedLines::new(input);
     match read_notations(&mut lines) {
-        Ok(_) => translate_plan(out, lines),
+        Ok(notations) => translate_plan(work, out, lines, &notations.from),
         Err(refused) => push_fault_line(out, refused),
     }
 }
 
 // Appends the whole output of the whole input: after its two notations what each line of its plan becomes, and the
 // tail. Without the memory for it `out` stays as it is.
-pub fn translate(out: &mut Vec<u8>, input: &[u8]) -> Result<(), AllocError>
+pub fn translate(work: &mut Workspace, out: &mut Vec<u8>, input: &[u8]) -> Result<(), AllocError>
     ensures answer { MatchResult result (λ _. (added : List ℕ) × (out.new.items ≡ out.old.items ++ added) × Only (Output input.now) added) (λ _. out.new.items ≡ out.old.items) }
     ensures succeeds { vec_len out.old + room_for (counted_lines input.now) ≤ vec_capacity out.old → is_ok result ≡ true }
 {
     let mark = out.len();
-    let done = translate_input(out, input);
+    let done = translate_input(work, out, input);
     if done.is_err() {
         out.truncate(mark);
     }

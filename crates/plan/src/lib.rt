@@ -12,6 +12,7 @@ mod plan_line;
 mod report;
 mod sections;
 mod tally;
+mod workspace;
 
 pub use any_notation::AnyNotation;
 pub use command::{translate, translate_line};
@@ -23,3 +24,4 @@ pub use plan_line::{MAX_DIGITS, PlanLine};
 pub use report::{MAX_REPORT_BYTES, push_fault_line, push_tail};
 pub use sections::read_notation;
 pub use tally::Tally;
+pub use workspace::Workspace;

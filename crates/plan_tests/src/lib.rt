@@ -3,7 +3,7 @@
 
 #[cfg(test)]
 mod tests {
-    use plan::translate;
+    use plan::{Workspace, translate};
     use std::process::Abort;
     use std::test::Fail;
     use tokens::{Cutter, TokenKind, check_expression, needs_space};
@@ -13,9 +13,10 @@ mod tests {
         rt: &(impl Abort + AllocGlobal),
         cases: &[(&str, &[u8], &[u8])],
     ) -> Result<(), Fail> {
+        let mut work = Workspace::new(rt.alloc())?;
         for (case, input, output) in cases {
             let mut out = Vec::new(rt.alloc());
-            translate(&mut out, input)?;
+            translate(&mut work, &mut out, input)?;
             assert_eq!(rt; out.as_slice(), *output, "{case}");
         }
         Ok(())
