@@ -4,7 +4,7 @@ use Rattle.std.specs.List.{find, range_with_len}
 use Rattle.std.proofs.lemmas.List.{get_or-set_same, get_or-set_other, length-set}
 use Rattle.std.proofs.lemmas.Bool.{cases_eq, cases_lt, eq-eqb, ne_eqb, eqb-true, both_ways}
 use Rattle.notation.specs.declared.form.Position.{Position}
-use Rattle.notation.specs.Chains.{begins_with, seek, FirstsIn, NextsIn}
+use Rattle.notation.specs.Chains.{begins_with, seek}
 use Rattle.notation.specs.Operators.{Op}
 use Rattle.notation.specs.Tables.{Table, Listed, LawfulTable}
 use Rattle.notation.specs.LookupsLemmas.{FirstFrom, find_is, find_none, inside}
@@ -95,9 +95,6 @@ ahead None = 0
 ahead (Some f) = 64 - f
 
 module _ (t : Table) (p : Position) (s : List ℕ) (b : ℕ) (first : b ≡ get_or s 0 0) where
-  pub along_start : (at : Option ℕ) → at ≡ seek t b 0 64 → Along t p s b at
-  along_start at e = record { from = 0; within = omega arith; is = e; passed = λ g lt _. omega arith }
-
   pub along_end : Along t p s b None → (g : ℕ) → g < 64 → Listed t p s g → ⊥
   along_end h g lt is =
       ⊎_elim
@@ -150,7 +147,3 @@ chained_none t lawful firsts nexts bytes functions none =
       first = λ b lt. none b lt ∙ sym (seek_end t b 64);
       next = λ f b low high begins. absurd (omega arith);
     }
-
-pub chained_all : (t : Table) → LawfulTable t → (firsts nexts : List (Option ℕ)) (i : ℕ) → i ≡ 0 → ChainedFrom t firsts nexts i → FirstsIn t firsts × NextsIn t nexts
-chained_all t lawful firsts nexts i start h =
-    (λ b lt. h.first b lt ∙ (λ k. seek t b (start k) (64 - start k)), λ f b begins. h.next f b (omega arith) (begins_inside t lawful f b begins) begins)

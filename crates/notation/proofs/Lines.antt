@@ -1,11 +1,11 @@
 -- A line has its fields in one way only, and a number its value. Assumes nothing.
-use Rattle.std.proofs.Common.{◌≡◌, ℕ, ◌+◌, ◌-◌, ◌*◌, ◌^◌, ◌<◌, ◌≤◌, Bool, true, false, cond, not, eqb, leb, List, [], ◌∷◌, ◌++◌, length, get_or, take, drop, Some, Decides, Option, sym, refl, ap, ◌∙◌, subst, ⊎_elim, mul-le-mul_right, mul_assoc, pow-suc, add-one, arith}
+use Rattle.std.proofs.Common.{◌≡◌, ℕ, ◌+◌, ◌-◌, ◌*◌, ◌^◌, ◌<◌, ◌≤◌, true, cond, leb, List, [], ◌∷◌, ◌++◌, length, get_or, take, drop, Some, Option, sym, refl, ap, ◌∙◌, subst, mul-le-mul_right, mul_assoc, pow-suc, add-one, arith}
 use native.Mathlib.Nat.{pow-le-pow_right}
-use Rattle.std.specs.List.{ContainsAt as Has, AllByRecursion, AllWithin, HoldsAt}
+use Rattle.std.specs.List.{AllByRecursion, AllWithin, HoldsAt}
 use Rattle.std.specs.Str.{bytes_eq}
-use Rattle.std.proofs.ByRecursion.{All-from_get_or, all-has, has_get_or}
+use Rattle.std.proofs.ByRecursion.{All-from_get_or}
 use Rattle.std.proofs.lemmas.List.{take-append-drop, drop_more, take_rest, length_push, length-take-le, get_or-take}
-use Rattle.std.proofs.lemmas.Bool.{both_ways, and_parts, cases_Bool, eqb-false, leb-true, not-true, not_from_false}
+use Rattle.std.proofs.lemmas.Bool.{and_parts, leb-true}
 use Rattle.tokens.specs.Bytes.{is_digit}
 use Rattle.notation.specs.declared.form.Form.{Form}
 use Rattle.notation.specs.declared.form.Form.TheVariants.{Fx, Fy, Xf, Yf, Xfx, Xfy, Yfx}
@@ -33,27 +33,8 @@ no_space (a ∷ x) y p = no_space x y p.1
 pub split_at : (text : List ℕ) (i : ℕ) → i < length text → get_or text i 0 ≡ 32 → text ≡ take i text ++ (32 ∷ drop (i + 1) text)
 split_at text i lt is = sym (take-append-drop i text) ∙ ap (λ (l : List ℕ). take i text ++ l) (drop_more text i 0 lt ∙ ap (λ b. b ∷ drop (i + 1) text) is)
 
--- a text that begins with a space does not begin with a field
-pub no_field_first : (text : List ℕ) (i : ℕ) → i < length text → get_or text i 0 ≡ 32 → i ≡ 0 → (x y : List ℕ) → Field x → text ≡ x ++ (32 ∷ y) → ⊥
-no_field_first text i lt is first x y f e =
-    let at : text ≡ [] ++ (32 ∷ drop (i + 1) text) = split_at text i lt is ∙ ap (λ n. take n text ++ (32 ∷ drop (i + 1) text)) first in
-    let empty = (same_split x [] y (drop (i + 1) text) f.spaceless tt (sym e ∙ at)).0 in
-    omega (arith, f.some, ap length empty)
-
 pub no_field : (text : List ℕ) → AllWithin (λ b. b ≡ 32 → ⊥) text 0 (length text) → (x y : List ℕ) → text ≡ x ++ (32 ∷ y) → ⊥
 no_field text none x y e = no_space x y (subst Spaceless e (All-from_get_or (λ b. b ≡ 32 → ⊥) text 0 (λ i lt. none i 0 (omega arith) lt)))
-
--- a field, by tests
-pub field_decides : (bytes : List ℕ) (has : Bool) → false ≡ eqb (length bytes) 0 → Decides has (Has bytes 32) → Decides (not has) (Field bytes)
-field_decides bytes has some decides = (
-  λ none.
-      record {
-        some = let ne = eqb-false (length bytes) 0 (sym some) in omega arith;
-        spaceless =
-            All-from_get_or (λ b. b ≡ 32 → ⊥) bytes 0 (λ i lt is. both_ways has (not-true has none) (decides.1 (subst (Has bytes) is (has_get_or bytes i 0 lt))));
-      },
-  λ field. not_from_false has (⊎_elim (λ e. absurd (all-has (λ b. b ≡ 32 → ⊥) bytes 32 field.spaceless (decides.0 e) refl)) (λ e. e) (cases_Bool has)),
-)
 
 -- a field ends at the first space, and the rest begins after it, as slices of the text
 pub field_at : (text : List ℕ) (i : ℕ) → (i ≡ 0 → ⊥) → (i < length text) × HoldsAt (λ b. b ≡ 32) text i × AllWithin (λ b. b ≡ 32 → ⊥) text 0 i → Field (take i text) × (text ≡ take i text ++ (32 ∷ take (length text - (i + 1)) (drop (i + 1) text)))
@@ -91,16 +72,6 @@ module _ (line f after-f : List ℕ) (first : Field f) (begins : line ≡ f ++ (
     module _ (w s : List ℕ) (third : Field w) (ends : after-p ≡ w ++ (32 ∷ s)) where
       pub no_fourth : (Field s → ⊥) → (x : Fields) → Parted line x → ⊥
       no_fourth none x h = none (subst Field (one_field after-p w s x.word x.spelling third ends h.word (sym (from_third x h))).1 h.spelling)
-
-      pub four_fields : Field s → Parted line (record { function = f; priority = p; word = w; spelling = s })
-      four_fields fourth =
-          record {
-            whole = begins ∙ ap (λ (l : List ℕ). f ++ (32 ∷ l)) (goes_on ∙ ap (λ (l : List ℕ). p ++ (32 ∷ l)) ends);
-            function = first;
-            priority = second;
-            word = third;
-            spelling = fourth;
-          }
 
 pub parted_one : (line : List ℕ) (x y : Fields) → Parted line x → Parted line y → x ≡ y
 parted_one line x y p q =

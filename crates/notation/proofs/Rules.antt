@@ -21,9 +21,6 @@ use Rattle.notation.specs.LookupsLemmas.{listed_is, is_listed_lem}
 
 -- The rules of a line.
 module _ {T : Type 0} (line : List ℕ) (otherwise : ℕ → Op → Result T Fault → Type 0) where
-  pub no_fields : ((x : Fields) → Parted line x → ⊥) → LineRules line otherwise (Err (fault MalformedDeclaration 0))
-  no_fields none = inr (λ d says. none says.fields says.parted, refl)
-
   module _ (x : Fields) (parted : Parted line x) where
     pub no_function : ((n : ℕ) → Number x.function n → ⊥) → LineRules line otherwise (Err (fault MalformedDeclaration 0))
     no_function none =

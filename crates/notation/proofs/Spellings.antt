@@ -1,5 +1,5 @@
 -- A text is a spelling if it is cut into one token, a symbol or a word. Assumes nothing.
-use Rattle.std.proofs.Common.{◌≡◌, ℕ, ◌≤◌, Bool, eqb, ◌⊎◌, List, [], ◌∷◌, ◌++◌, length, Decides, sym, refl, ap, ◌∙◌, subst, inl, inr, ⊎_elim, append-nil, arith}
+use Rattle.std.proofs.Common.{◌≡◌, ℕ, ◌≤◌, eqb, ◌⊎◌, List, [], ◌∷◌, ◌++◌, length, Decides, sym, refl, ap, ◌∙◌, subst, inl, inr, ⊎_elim, append-nil, arith}
 use Rattle.std.proofs.lemmas.List.{length-append, nil_from_length}
 use Rattle.std.proofs.lemmas.Bool.{eqb-true, eq-eqb}
 use Rattle.tokens.specs.declared.token.TokenKind.{TokenKind}
@@ -53,15 +53,3 @@ module _ (text : List ℕ) (all : List Placed) (tokens : Tokens text all) where
     pub symbol_decides : length text ≤ 12 → t.kind ≡ K.Symbol → Decides (eqb (length t.bytes) (length text)) (Spelling text)
     symbol_decides short kind =
         (λ e. record { short = short; token = inl (subst (λ (k : TokenKind). WellFormed k text) kind (whole (eqb-true _ _ e)).1) }, λ s. eq-eqb _ _ (ap length (spelt s).0))
-
-    pub word_decides : length text ≤ 12 → t.kind ≡ K.Word → length t.bytes ≡ length text → (letter : Bool) → Decides letter (NoDigitFirst t.bytes) → Decides letter (Spelling text)
-    word_decides short kind long letter decides = (
-      λ e.
-          let is = whole long in
-          record { short = short; token = inr (subst (λ (k : TokenKind). WellFormed k text) kind is.1, subst NoDigitFirst is.0 (decides.0 e)) },
-      λ s.
-          ⊎_elim
-          (λ d. let z : ◌≡◌ {A = ℕ} 0 1 = cc in absurd (omega arith))
-          (λ d. decides.1 (subst NoDigitFirst (sym (spelt s).0) d.1))
-          (spelt s).1,
-    )

@@ -11,7 +11,8 @@ use crate::function::FUNCTIONS;
 pub(crate) const BYTES: usize = 256;
 
 // A list that operators can be declared into. It is no notation until it is sealed.
-// An array, with a slot for each function: declaring may not want memory.
+// An array, with a slot for each function: declaring may not want memory. No model, though its table is what callers see: a
+// table is a function, and functions have no code.
 #[derive(Drop)]
 pub struct OpenList {
     pub(crate) slots: [Option<Entry>; FUNCTIONS],

@@ -10,7 +10,7 @@ ghost use Rattle.plan.specs.declared.any_notation.AnyNotation.TheVariants.{Ladde
 
 use notation::{Ladder, Notation, Operator, Position, SealedList};
 
-// The ladder, or a declared list.
+// The ladder, or a declared list. An enum, and no `dyn`: a function may not make one and hand it out.
 #[derive(Drop)]
 pub enum AnyNotation {
     Ladder(Ladder),

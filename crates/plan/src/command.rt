@@ -33,7 +33,7 @@ fn push_plan_line(out: &mut Vec<u8>, line: PlanLine<'_>) -> Result<usize, AllocE
     ensures room { WithinRoom (length line.entry.digits.now + length line.entry.expression.now + 2) out.old out.new result }
 {
     out.reserve(line.digits.len() + line.expression.len() + 2)?;
-    // There is room for the whole line, so nothing below fails.
+    // There is room for the whole line, so nothing below fails, though two of the calls could.
     let _ = out.extend_from_slice(line.digits);
     out.push_reserved(b'\t');
     let pairs = push_respaced(out, line.expression)?;

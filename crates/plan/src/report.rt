@@ -11,7 +11,8 @@ use std::alloc::AllocError;
 // No fault line and no tail has more bytes.
 pub const MAX_REPORT_BYTES: usize = 65;
 
-// Appends a byte and then a number, in decimal without leading zeros, where there is room for them.
+// Appends a byte and then a number, in decimal without leading zeros, where there is room for them. By `itoa`, and no
+// `Display`: only into a `String` does `write!` promise its bytes, and it may want memory.
 fn push_field(out: &mut Vec<u8>, lead: u8, number: usize)
     requires { vec_len out.old + 21 ≤ vec_capacity out.old }
     ensures bytes { out.new.items ≡ out.old.items ++ lead ∷ decimal number }

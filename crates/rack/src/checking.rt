@@ -31,7 +31,7 @@ fn check_nodes(rack: &[Node], root: usize) -> Result<(), Fault>
 }
 
 // Whether the root is among the nodes in use and before the rack's end.
-// The arguments are those of the public calls: a struct of the three would be made for this one test.
+// A caller has rack, fill and root apart, and a struct of the three would be made for a call and taken apart in it.
 fn has_root(rack: &[Node], fill: &Fill, root: usize) -> bool
     ensures { MatchBool result ((root < fill.now.used) × (root < room rack.now)) (NoRoot rack.now fill.now.used root) }
 {

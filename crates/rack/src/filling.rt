@@ -2,10 +2,18 @@
 ghost use Rattle.std.specs.Prelude.{◌≡◌, ◌+◌, MatchResult};
 ghost use Rattle.tokens.specs.InOrder.{Only};
 ghost use Rattle.rack.specs.Fills.{TakesBack, Raises};
+ghost use Rattle.rack.specs.Nodes.{room};
 
 use crate::fill::{Fill, RACK_NODES};
 use crate::node::Node;
 use tokens::{Fault, FaultKind};
+
+// How many nodes the rack lends: those that it has, and no more than 4,096.
+pub fn room(rack: &[Node]) -> usize
+    ensures { result ≡ room rack.now }
+{
+    rack.len().min(RACK_NODES)
+}
 
 impl Fill {
     // Lowers the fill to the mark. Refuses a mark above it, and is then as it was.
@@ -28,11 +36,10 @@ impl Fill {
         ensures answer { Only (Raises rack.now self.old.used nodes) result }
         ensures fill { MatchResult result (λ _. self.new.used ≡ self.old.used + nodes) (λ _. self.new.used ≡ self.old.used) }
     {
-        let room = rack.len().min(RACK_NODES);
         self.used = self
             .used
             .checked_add(nodes)
-            .filter(|&used| used <= room)
+            .filter(|&used| used <= room(rack))
             .ok_or(Fault {
                 kind: FaultKind::RackFull,
                 place: self.used,

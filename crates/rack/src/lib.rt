@@ -17,6 +17,7 @@ mod theorems;
 
 pub use checking::check_tree;
 pub use fill::{Fill, RACK_NODES};
+pub use filling::room;
 pub use function_bits::functions;
 pub use function_set::FunctionSet;
 pub use name::{MAX_NAME_BYTES, Name};

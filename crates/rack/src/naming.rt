@@ -6,7 +6,7 @@ use crate::name::{MAX_NAME_BYTES, Name};
 
 impl Name {
     // The name with the bytes of the word, or none if the word is longer than a name may be.
-    // An Option and no TryFrom: there is but one refusal, with nothing to say.
+    // `new` and no `TryFrom`, as of `NonZeroU8`: there is but one refusal, with nothing to say.
     pub fn new(word: &[u8]) -> Option<Name>
         ensures { MatchOption result (16 < length word.now) (λ n. (length word.now ≤ 16) × (n ≡ name_of word.now)) }
     {

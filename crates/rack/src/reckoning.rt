@@ -39,7 +39,8 @@ fn next_value<R: Rules>(
     }
 }
 
-// Stores the value of each node, given the nodes of a tree.
+// Stores the value of each node, given the nodes of a tree. By place, and into a list that the caller lends: each value comes
+// from those stored before it, and no call wants memory.
 fn store_values<R: Rules>(rules: &R, tree: &SoundNodes<'_>, values: &mut [R::Value])
     requires { length tree.now ≤ length values.old }
     ensures { (t : Tree) → ProperTree t → tree.now ≡ nodes_of t → values.new ≡ values_of (R.Rules.meaning rules.now) t ++ drop (size t) values.old }

@@ -32,7 +32,7 @@ fn are_zeros(bytes: &[u8]) -> bool
 }
 
 impl Name {
-    // Whether the two are the same name, byte by byte.
+    // Whether the two are the same name, byte by byte. A function beside `==`, a form that the project fixes.
     pub fn same(&self, other: &Name) -> bool
         ensures { MatchBool result (self.now ≡ other.now) (self.now ≢ other.now) }
     {

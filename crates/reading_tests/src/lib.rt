@@ -14,11 +14,6 @@ mod tests {
     use std::test::Fail;
     use tokens::Fault;
 
-    const BLANK: Node = Node {
-        item: Item::Function(0),
-        size: 0,
-    };
-
     const ROOM: usize = 8;
 
     fn function(function: u8, size: usize) -> Node {
@@ -30,7 +25,7 @@ mod tests {
 
     fn name(word: &[u8]) -> Node {
         Name::new(word).map_or(
-            BLANK,
+            Node::BLANK,
             |name| Node {
                 item: Item::Name(name),
                 size: 1,
@@ -68,7 +63,11 @@ mod tests {
         ) -> Result<(), Fail> {
             let (answer, rack, used) = self.read(reader);
             let root = answer.map_err(|_| Fail::new("refused"))?;
-            assert!(rt; used > root && used - root == 1, "{}", self.case);
+            assert!(rt;
+                used == nodes.len() && used > root && used - root == 1,
+                "{}",
+                self.case
+            );
             assert!(rt; &rack[..used.min(ROOM)] == nodes, "{}", self.case);
             Ok(())
         }
@@ -116,7 +115,7 @@ mod tests {
             for (used, case) in [(2, "behind nodes in use"), (ROOM, "in a full rack")] {
                 Example {
                     text,
-                    rack: [BLANK; ROOM],
+                    rack: [Node::BLANK; ROOM],
                     used,
                     case,
                 }
@@ -126,21 +125,21 @@ mod tests {
         let brackets = vec![in rt.alloc(); b')'; 4097]?;
         Example {
             text: brackets.as_slice(),
-            rack: [BLANK; ROOM],
+            rack: [Node::BLANK; ROOM],
             used: 2,
             case: "too many bytes",
         }
         .check_fault(&rt, &mut reader, 20, 4096)?;
         Example {
             text: &brackets.as_slice()[0..1025],
-            rack: [BLANK; ROOM],
+            rack: [Node::BLANK; ROOM],
             used: 2,
             case: "too many tokens",
         }
         .check_fault(&rt, &mut reader, 22, 1024)?;
         Example {
             text: b"a+b",
-            rack: [BLANK; ROOM],
+            rack: [Node::BLANK; ROOM],
             used: 6,
             case: "three nodes in two places",
         }
@@ -154,7 +153,7 @@ mod tests {
         let nodes = [a, b, c, function(35, 3), function(0, 4), function(32, 6)];
         Example {
             text: b"a*not b+c",
-            rack: [BLANK; ROOM],
+            rack: [Node::BLANK; ROOM],
             used: 0,
             case: "a prefix operator",
         }
@@ -162,7 +161,7 @@ mod tests {
         let nodes = [a, b, function(35, 3), function(1, 4), c, function(32, 6)];
         Example {
             text: b"a+b later*c",
-            rack: [BLANK; ROOM],
+            rack: [Node::BLANK; ROOM],
             used: 0,
             case: "a postfix operator",
         }

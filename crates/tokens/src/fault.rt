@@ -43,6 +43,7 @@ pub enum FaultKind {
 #[derive(Clone, Copy, PartialEq, Eq)]
 pub struct Fault {
     pub kind: FaultKind,
+    // A number, as it is printed: of a byte, a field or a node, and 0 where no place is meant.
     pub place: usize,
 }
 

@@ -24,7 +24,7 @@ pub const MAX_WORD_BYTES: usize = 16;
 fn check_bytes(text: &[u8]) -> Result<(), Fault>
     ensures { MatchResult result (λ _. AllByRecursion Lawful text.now) (λ f. FirstUnlawful text.now f.place × (f ≡ fault FaultKind.UnlawfulByte f.place)) }
 {
-    // A loop with the index, as the first unlawful byte is refused where it stands.
+    // A loop over the bytes with their index, a form that the project fixes.
     for (place, byte) in text.iter().enumerate() {
         if ByteClass::of(*byte) == ByteClass::Unlawful {
             return Err(Fault {

@@ -7,17 +7,11 @@ mod printing;
 use crate::printing::push_tree;
 use notation::Notation;
 use plan::{InputFault, NumberedLines, push_fault_line, read_notation};
-use rack::{Fill, Item, Node, RACK_NODES};
+use rack::{Fill, Node, RACK_NODES};
 use reading::Reader;
 use std::alloc::{AllocError, Global};
 use std::io;
 use std::io::{Read, Write};
-
-// What a node of the rack holds before a tree is put there.
-const BLANK: Node = Node {
-    item: Item::Function(0),
-    size: 0,
-};
 
 // Appends a line for each expression: its tree, or its fault line.
 fn push_trees<N: Notation>(
@@ -27,7 +21,7 @@ fn push_trees<N: Notation>(
     notation: &N,
 ) -> Result<(), AllocError> {
     let mut reader = Reader::new(heap)?;
-    let mut nodes = vec![in heap; BLANK; RACK_NODES]?;
+    let mut nodes = vec![in heap; Node::BLANK; RACK_NODES]?;
     let rack = nodes.as_mut_slice();
     for line in expressions {
         let mut fill = Fill::new();

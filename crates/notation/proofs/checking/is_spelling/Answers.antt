@@ -3,7 +3,7 @@ use Rattle.std.proofs.lemmas.Bool.{false≢true, eqb-true}
 use Rattle.tokens.specs.declared.token.Token.{Token}
 use Rattle.tokens.specs.Cutters.{ahead}
 use Rattle.tokens.specs.Tokens.{placed}
-use Rattle.notation.proofs.Spellings.{no_token, not_whole, bracket, symbol_decides, word_decides}
+use Rattle.notation.proofs.Spellings.{no_token, not_whole, bracket, symbol_decides}
 use Rattle.notation.proofs.checking.is_spelling.Goals as goal
 
 pub returns-in_default : goal.returns-in_default
@@ -13,11 +13,6 @@ pub returns-in-Symbol : goal.returns-in-Symbol
 returns-in-Symbol c =
     let first = c.in-Some.ensures.steps ∙ ap (λ (t : Token). placed t ∷ ahead c.next.new.self) c.in-Symbol.is in
     symbol_decides _ _ c.new-tokens.ensures.tokens _ _ first c.if-bytes-gt-MAX_SPELLING_BYTES.false refl
-
-pub returns-then-word-bytes : goal.returns-then-word-bytes
-returns-then-word-bytes c =
-    let first = c.in-Some.ensures.steps ∙ ap (λ (t : Token). placed t ∷ ahead c.next.new.self) c.in-Word.is in
-    word_decides _ _ c.new-tokens.ensures.tokens _ _ first c.if-bytes-gt-MAX_SPELLING_BYTES.false refl c.if-word-bytes.true _ c.digit_first.ensures
 
 pub returns-else-word-bytes : goal.returns-else-word-bytes
 returns-else-word-bytes c =

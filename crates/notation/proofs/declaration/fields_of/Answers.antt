@@ -1,6 +1,5 @@
-use Rattle.std.proofs.Common.{refl}
 use Rattle.std.proofs.lemmas.Bool.{false≢true}
-use Rattle.notation.proofs.Lines.{no_second, no_third, no_fourth, four_fields}
+use Rattle.notation.proofs.Lines.{no_second, no_third, no_fourth}
 use Rattle.notation.proofs.declaration.fields_of.Goals as goal
 
 pub returns-in_err-priority : goal.returns-in_err-priority
@@ -20,10 +19,3 @@ returns-then-not-is_field c =
     let second = c.in_ok-priority.ensures in
     let third = c.in_ok-word.ensures in
     no_fourth _ _ _ first.0 first.1 _ _ second.0 second.1 _ _ third.0 third.1 (λ field. false≢true (c.if-not-is_field.ensures.1 field))
-
-pub returns : goal.returns
-returns c =
-    let first = c.in_ok-function.ensures in
-    let second = c.in_ok-priority.ensures in
-    let third = c.in_ok-word.ensures in
-    four_fields _ _ _ first.0 first.1 _ _ second.0 second.1 _ _ third.0 third.1 (c.if-not-is_field.ensures.0 refl)
