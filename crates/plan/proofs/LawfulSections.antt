@@ -2,7 +2,7 @@
 use Rattle.std.proofs.Common.{◌≡◌, ℕ, ◌+◌, List, [], ◌∷◌, Ok, Err, Result, refl, sym, ap, ◌∙◌, subst, inl, inr}
 use Rattle.tokens.specs.declared.fault.Fault.{Fault}
 use Rattle.notation.specs.Additions.{nothing_lawful, lawful_extended}
-use Rattle.notation.specs.Declarations.{Answer, Declares, Added, extended}
+use Rattle.notation.specs.Declarations.{Declares, Added, extended}
 use Rattle.notation.specs.Lines.{Said, said_op}
 use Rattle.notation.specs.Rows.{ladder_rows, ladder_table}
 use Rattle.notation.specs.RowsLemmas.{rows_lawful}

@@ -4,6 +4,7 @@ pub mod Outputs
 pub mod Parts
 pub mod Counts
 pub mod PlanAhead
+pub mod ReadLines
 pub mod Sectioning
 pub mod Splits
 pub mod Unpassed

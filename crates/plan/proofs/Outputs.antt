@@ -4,7 +4,7 @@ use Rattle.std.specs.List.{flat_map}
 use Rattle.std.proofs.lemmas.List.{length-append, length_push, flat_map_more}
 use Rattle.tokens.specs.declared.fault.Fault.{Fault}
 use Rattle.tokens.specs.InOrder.{Only}
-use Rattle.tokens.specs.Limits.{Limits, WithinLimits}
+use Rattle.tokens.specs.Limits.{WithinLimits}
 use Rattle.tokens.specs.Spacing.{respaced, pairs_of}
 use Rattle.tokens.proofs.Checks.{limits_one, within_accepted}
 use Rattle.tokens.proofs.Spaces.{pairs_within}
@@ -12,10 +12,9 @@ use Rattle.notation.specs.Tables.{Table, LawfulTable}
 use Rattle.grammar.specs.Trees.{Tree}
 use Rattle.grammar.specs.Reading.{Reads}
 use Rattle.grammar.specs.Refusals.{Answered}
-use Rattle.grammar.specs.Verdicts.Verdict as V
+use Rattle.grammar.specs.Verdicts.Verdict.{reads}
 use Rattle.grammar.proofs.Verdicts.{one_answer}
 use Rattle.plan.specs.Plans.{begins_tail, up_to_tail, ExpressionFault, LineFault, LineReads, ComesOut, Entry, bytes_of, ComesOutAs, EachComesOut, line_in, pairs_in, lines_added, pairs_added, PlanOutput, room_for}
-use Rattle.plan.specs.PlanLines.{IsPlanLine}
 use Rattle.plan.specs.Reports.{line_end, fault_line, tail_line}
 use Rattle.plan.proofs.Parts.{plan_line_one}
 
@@ -28,16 +27,10 @@ module _ (t : Table) (lawful : LawfulTable t) where
 
   -- an expression that reads is not refused, and one that is refused has one fault
   reads_on : (text : List ℕ) (tree : Tree) (f : Fault) → WithinLimits text → Reads t text tree → ExpressionFault t text f → ⊥
-  reads_on text tree f within reads =
+  reads_on text tree f within r =
       ⊎_elim
-      (λ limit. never (limits_one text (Ok tt) (Err f) (within_accepted text within) limit))
-      (λ (_, answered). apart tree f (answer_one text within (Ok tree) (Err f) (V.reads tree, reads, refl) answered))
-  where
-    never : {f : Fault} → ◌≡◌ {A = Result (Unit {0}) Fault} (Ok tt) (Err f) → ⊥
-    never e = absurd cc
-
-    apart : (tree : Tree) (f : Fault) → ◌≡◌ {A = Result Tree Fault} (Ok tree) (Err f) → ⊥
-    apart tree f e = absurd cc
+      (λ limit. let e = limits_one text (Ok tt) (Err f) (within_accepted text within) limit in absurd cc)
+      (λ (_, answered). let e = answer_one text within (Ok tree) (Err f) (reads tree, r, refl) answered in absurd cc)
 
   expression_fault : (text : List ℕ) (f g : Fault) → ExpressionFault t text f → ExpressionFault t text g → f ≡ g
   expression_fault text f g (inl p) (inl q) = let e = limits_one text (Err f) (Err g) p q in cc

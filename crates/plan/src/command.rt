@@ -107,11 +107,7 @@ fn read_notations(lines: &mut NumberedLines<'_>) -> Result<Notations, InputFault
 }
 
 // Appends what comes after the notations that the input begins with, or the fault line of the first that is refused.
-fn translate_input(
-    work: &mut Workspace,
-    out: &mut Vec<u8>,
-    input: &[u8],
-) -> Result<(), AllocError>
+fn translate_input(work: &mut Workspace, out: &mut Vec<u8>, input: &[u8]) -> Result<(), AllocError>
     ensures answer { (added : List ℕ) × (out.new.items ≡ out.old.items ++ added) × OnOk result (Output input.now added) }
     ensures succeeds { vec_len out.old + room_for (counted_lines input.now) ≤ vec_capacity out.old → is_ok result ≡ true }
 {

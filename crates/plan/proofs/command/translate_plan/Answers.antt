@@ -3,6 +3,7 @@ use Rattle.std.specs.declared.alloc.AllocError.{AllocError}
 use Rattle.std.specs.Iterator.Adapters.{take_while_source, take_while_done}
 use Rattle.std.proofs.iter.Serving.{serving}
 use Rattle.std.proofs.lemmas.List.{length-append}
+use Rattle.plan.specs.AnyNotations.{any_table}
 use Rattle.plan.specs.NumberedAhead.{numbered_ahead}
 use Rattle.plan.specs.Plans.{ComesOut, up_to_tail, PlanOutput}
 use Rattle.plan.proofs.Outputs.{sofar_none, sofar_more, sofar_end, few_pairs}
@@ -22,7 +23,7 @@ loop-line-init c =
       search (rules, serving),
       tt,
       ap take_while_done c.into_iter-line-iterator.ensures.into_iter_gives ∙ items.done,
-      rw source (rw (none.0, none.1) (sofar_none all before out cap)),
+      rw source (rw (none.0, none.1) (sofar_none (any_table c.args.notation.now) all before out cap)),
       omega arith,
     )
 
@@ -31,14 +32,14 @@ stepped : (c : In-Some) → NextLine c.loop-line.line-iterator (Some c.in-Some.l
 stepped c = next_line _ (λ f x b q k. search (rules, tests)) c.loop-line.line-iterator c.next.new.self (Some c.in-Some.line) c.loop-line.invariant.2 c.in-Some.ensures.steps
 
 -- the line comes out with its number, one more than those before it
-came : (c : In_ok-outcome) → ComesOut (plan_count c.loop-line.line-iterator + 1) c.in-Some.line.bytes.now c.in_ok-outcome.outcome c.in_ok-outcome.ensures.answer.0
+came : (c : In_ok-outcome) → ComesOut (any_table c.args.notation.now) (plan_count c.loop-line.line-iterator + 1) c.in-Some.line.bytes.now c.in_ok-outcome.outcome c.in_ok-outcome.ensures.answer.0
 came c =
-    subst (λ n. ComesOut n c.in-Some.line.bytes.now c.in_ok-outcome.outcome c.in_ok-outcome.ensures.answer.0) (stepped (at-In_ok-outcome c).In-Some).2 c.in_ok-outcome.ensures.answer.2.is
+    subst (λ n. ComesOut (any_table c.args.notation.now) n c.in-Some.line.bytes.now c.in_ok-outcome.outcome c.in_ok-outcome.ensures.answer.0) (stepped (at-In_ok-outcome c).In-Some).2 c.in_ok-outcome.ensures.answer.2.is
 
 pub count-requires-clause-pairs : goal.count-requires-clause-pairs
 count-requires-clause-pairs c =
     let step = stepped (goal.at.count-requires-clause-pairs c).In-Some in
-    omega (arith, c.loop-line.invariant.3.few_pairs, step.1, few_pairs _ _ c.in_ok-outcome.outcome _ (came (goal.at.count-requires-clause-pairs c).In_ok-outcome))
+    omega (arith, c.loop-line.invariant.3.few_pairs, step.1, few_pairs (any_table c.args.notation.now) _ _ c.in_ok-outcome.outcome _ (came (goal.at.count-requires-clause-pairs c).In_ok-outcome))
 
 pub loop-line-preserved : goal.loop-line-preserved
 loop-line-preserved c =
@@ -50,7 +51,7 @@ loop-line-preserved c =
       search (rules, serving),
       tt,
       step.4,
-      sofar_more (up_to_tail (numbered_ahead c.args.lines)) c.args.lines.count (vec_items c.args.out.now) (vec_capacity c.args.out.now) (plan_ahead c.loop-line.line-iterator) (plan_count c.loop-line.line-iterator) (vec_items out) c.loop-line.tally.lines c.loop-line.tally.pairs c.loop-line.invariant.3 c.in-Some.line.bytes.now (plan_ahead c.next.new.self) step.0
+      sofar_more (any_table c.args.notation.now) (up_to_tail (numbered_ahead c.args.lines)) c.args.lines.count (vec_items c.args.out.now) (vec_capacity c.args.out.now) (plan_ahead c.loop-line.line-iterator) (plan_count c.loop-line.line-iterator) (vec_items out) c.loop-line.tally.lines c.loop-line.tally.pairs c.loop-line.invariant.3 c.in-Some.line.bytes.now (plan_ahead c.next.new.self) step.0
           c.in_ok-outcome.outcome bytes (came (goal.at.loop-line-preserved c).In_ok-outcome) short _ _ _ _ step.3 told.answer.1 c.count.ensures.lines c.count.ensures.pairs,
       omega (arith, c.loop-line.invariant.4, told.room.capacity),
     )
@@ -68,4 +69,4 @@ pub returns-clause-answer : goal.returns-clause-answer
 returns-clause-answer c =
     let sofar = c.loop-line.invariant.3 in
     let end = ended (goal.at.returns-clause-answer c).In-None in
-    after_tail (PlanOutput c.args.lines.count (up_to_tail (numbered_ahead c.args.lines))) _ _ _ _ _ (_, sofar.bytes) (sofar_end _ _ _ _ _ _ _ _ _ sofar end) c.push_tail.ensures.bytes
+    after_tail (PlanOutput (any_table c.args.notation.now) c.args.lines.count (up_to_tail (numbered_ahead c.args.lines))) _ _ _ _ _ (_, sofar.bytes) (sofar_end _ _ _ _ _ _ _ _ _ _ sofar end) c.push_tail.ensures.bytes
