@@ -3,7 +3,7 @@ ghost use Rattle.std.specs.Prelude.{◌≡◌, vec_len};
 
 use crate::plan_line::PlanLine;
 use notation::Notation;
-use rack::{Fill, Item, Node, RACK_NODES};
+use rack::{Fill, Node, RACK_NODES};
 use reading::Reader;
 use std::alloc::{AllocError, Global};
 use tokens::Fault;
@@ -16,20 +16,16 @@ pub struct Workspace {
     ghost whole: { vec_len rack ≡ 4096 },
 }
 
-// What a node of the rack holds before a tree is put there.
-const BLANK: Node = Node {
-    item: Item::Function(0),
-    size: 0,
-};
-
 impl Workspace {
-    ghost use Rattle.std.specs.Prelude.{MatchResult};
+    ghost use Rattle.std.specs.Prelude.{IfOk, MatchResult};
     ghost use Rattle.plan.specs.Plans.{LineFault, LineReads};
 
     // The memory for every line, or the error that there is not so much.
-    pub fn new(alloc: Global) -> Result<Workspace, AllocError> {
+    pub fn new(alloc: Global) -> Result<Workspace, AllocError>
+        ensures { IfOk result (λ work. vec_len work.rack ≡ 4096) }
+    {
         let reader = Reader::new(alloc)?;
-        let rack = vec![in alloc; BLANK; RACK_NODES]?;
+        let rack = vec![in alloc; Node::BLANK; RACK_NODES]?;
         Ok(Workspace { reader, rack })
     }
 

@@ -31,8 +31,36 @@ mod tests {
             ("a tail at once", b"ladder\nladder\n#", b"#0 0\n"),
             (
                 "lines behind the tail",
-                b"declared\n0 900 fy not\nend\nladder\n201\t( a ) * b\n202\tc + \xff\n#9 9\n203\td\n",
+                b"ladder\ndeclared\n0 900 fy not\nend\n201\t( a ) * b\n202\tc + \xff\n#9 9\n203\td\n",
                 b"201\t(a)*b\n!R21 6 4\n#1 1\n",
+            ),
+        ];
+        check_outputs(&rt, &cases)
+    }
+
+    // A plan is read under the first of its notations, and not under the second.
+    #[test]
+    fn lines_that_do_not_read(rt: HostRuntime) -> Result<(), Fail> {
+        let cases: [(&str, &[u8], &[u8]); 4] = [
+            (
+                "an operator that is not of the list",
+                b"declared\n0 900 fy not\nend\nladder\n201\t( a ) * b\n202\tnot a\n",
+                b"!R24 5 6\n202\tnot a\n#1 0\n",
+            ),
+            (
+                "one line that reads and one that does not",
+                b"declared\n0 900 fy not\n32 400 yfx *\nend\nladder\n201\t(not a)*b\n202\tc+*\n#2 1\n",
+                b"201\t(not a)*b\n!R24 7 1\n#1 1\n",
+            ),
+            (
+                "what is due, brackets and priorities",
+                b"declared\n43 700 xfx =\nend\nladder\n1\t\n2\ta b\n3\ta)\n4\t(a\n5\ta=b=c\n",
+                b"!R25 5 0\n!R26 6 2\n!R27 7 1\n!R27 8 2\n!R28 9 3\n#0 0\n",
+            ),
+            (
+                "a line after one that was refused half-way",
+                b"ladder\nladder\n1\t((a+b\n2\t(a)+b\n",
+                b"!R27 3 5\n2\t(a)+b\n#1 1\n",
             ),
         ];
         check_outputs(&rt, &cases)
