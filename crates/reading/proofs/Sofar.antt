@@ -86,6 +86,9 @@ module _ (t : Table) (text : List ℕ) (old : List Node) (mark : ℕ) where
   unfolding run
   sofar_begun ahead d s all e = record { done = []; split = sym all; at = sym e }
 
+  pub sofar_whole : (d : Due) (s : Site) → stands d s ≡ run t (stands Operand (site mark [] old mark)) (lexemes_of text) → Sofar [] d s
+  sofar_whole d s e = record { done = tokens_of text; split = sym (append-nil (tokens_of text)); at = sym e }
+
   reached_push : (done : List Placed) (x : Placed) (d : Due) (s : Site) → reached done ≡ stands d s → reached (done ++ (x ∷ [])) ≡ step t (stands d s) (lexeme x)
   reached_push done x d s e =
       ap (run t (stands Operand (site mark [] old mark))) (map_push lexeme done x) ∙ run_push (map lexeme done) (lexeme x) (stands Operand (site mark [] old mark)) ∙ ap (λ (y : Yard). step t y (lexeme x)) e
@@ -109,6 +112,13 @@ module _ (t : Table) (text : List ℕ) (old : List Node) (mark : ℕ) where
     pub sofar_room : (x : Placed) (rest : List Placed) → ahead ≡ x ∷ rest → length (tokens_of text) ≤ 1024 → s.next + length s.waiting < s.mark + 1024
     sofar_room x rest next few = omega (arith, sofar_spans.few, sofar_spans.marked, ap length h.split, length-append h.done ahead, ap length next)
 
+    -- all tokens are done
+    whole : ahead ≡ [] → map lexeme h.done ≡ lexemes_of text
+    whole end = ap (map lexeme) (sym (h.split ∙ ap (λ (l : List Placed). h.done ++ l) end ∙ append-nil h.done))
+
+    pub all_done : ahead ≡ [] → stands d s ≡ run t (stands Operand (site mark [] old mark)) (lexemes_of text)
+    all_done end = sym h.at ∙ ap (run t (stands Operand (site mark [] old mark))) (whole end)
+
     state : State
     state = M.run t M.start (map lexeme h.done)
 
@@ -123,10 +133,6 @@ module _ (t : Table) (text : List ℕ) (old : List Node) (mark : ℕ) where
       token_fails x rest next left fails =
           let told = is_refused old mark (M.step t state (lexeme x)) (step t (reached h.done) (lexeme x)) left (step_shows old mark t state (reached h.done) (lexeme x) (known t (map lexeme h.done)) shows) (ap (λ (y : Yard). step t y (lexeme x)) h.at ∙ sym fails) in
           (answered_at t lawful text h.done x rest d (h.split ∙ ap (λ (l : List Placed). h.done ++ l) next) (unrefused old mark state (reached h.done) d s shows h.at) (tells old mark state (reached h.done) d s shows h.at) told.0, told.1)
-
-      -- all tokens are done
-      whole : ahead ≡ [] → map lexeme h.done ≡ lexemes_of text
-      whole end = ap (map lexeme) (sym (h.split ∙ ap (λ (l : List Placed). h.done ++ l) end ∙ append-nil h.done))
 
       run_whole : ahead ≡ [] → state ≡ M.run t M.start (lexemes_of text)
       unfolding state
