@@ -67,6 +67,10 @@ module _ (old : List Node) (mark : ℕ) where
       let same : site mark [] rack n ≡ s = cc in
       record { tree = b; is = refl; nodes = subst (λ (v : Site). Holding old v.rack mark v.next (nodes_of (erase b))) same h }
 
+-- a step by one table is the step by a table that is the same
+pub step_by : (t u : Table) → u ≡ t → (y z : Yard) (x : Lexeme) → y ≡ step u z x → y ≡ step t z x
+step_by t u same y z x e = e ∙ ap (λ v. step v z x) same
+
 module _ (t : Table) (text : List ℕ) (old : List Node) (mark : ℕ) where
   abbrev reached : List Placed → Yard
   reached done = run t (stands Operand (site mark [] old mark)) (map lexeme done)

@@ -8,10 +8,9 @@ use Rattle.notation.specs.Operators.{Op}
 use Rattle.notation.specs.Tables.{Table}
 use Rattle.reading.specs.declared.reader.Pending.{Pending}
 use Rattle.reading.specs.declared.reader.Reader.{Reader}
-use Rattle.reading.specs.Waiting.{Waits, waits_of, stacked, waiting, first, rest, last_function}
+use Rattle.reading.specs.Waiting.{waits_of, stacked, waiting, first, rest}
 use Rattle.reading.specs.Yard.{Site, settled_at, HasRoom}
 use Rattle.reading.proofs.Bounds.{settled_spans}
-use Rattle.reading.proofs.Turns.{one_less}
 
 pub length-waiting : (r : Reader) → length (waiting r) ≡ vec_len r.pending
 unfolding stacked
@@ -20,10 +19,6 @@ length-waiting r = length-map (reverse (vec_items r.pending)) waits_of ∙ lengt
 -- in room that nothing of has been taken there is room
 pub room_kept : (t : Table) (o : Op) (a b : Site) → Ok b ≡ settled_at t o a → HasRoom a → HasRoom b
 room_kept t o a b e room = let s = settled_spans t o a b e in omega (arith, room, s.marked, s.few)
-
--- below an operator that waits there is room
-pub room_below : (k below : List Waits) (f : ℕ) → below ≡ rest k → last_function k ≡ Some f → length below + 1 ≡ length k
-room_below k below f e top = omega (arith, one_less k f top, ap length e)
 
 pub pushed : (xs ys : List Pending) (p : Pending) → ys ≡ xs ++ (p ∷ []) → stacked ys ≡ waits_of p ∷ stacked xs
 unfolding stacked

@@ -43,6 +43,7 @@ impl<N: Notation> Reading<'_, N> {
     }
 
     // Takes the text's tokens, from the beginning, and lets the fill follow; or answers the fault of the first that fails.
+    // A function of its own: past a loop, one that made a reading does not know that its `&mut` are still the same.
     fn run(&mut self, text: &[u8], fill: &mut Fill) -> Result<(), Fault>
         requires begun { yard_of self.old ≡ started self.old.mark self.old.rack.now }
         requires within { WithinLimits text.now }
