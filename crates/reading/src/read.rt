@@ -43,7 +43,7 @@ impl<N: Notation> Reading<'_, N> {
     }
 
     // Takes the text's tokens, from the beginning, and lets the fill follow; or answers the fault of the first that fails.
-    // A function of its own: past a loop, one that made a reading does not know that its `&mut` are still the same.
+    // Not within `read`: past a loop, a proof of the function that made the reading knows of the rack its length alone.
     fn run(&mut self, text: &[u8], fill: &mut Fill) -> Result<(), Fault>
         requires begun { yard_of self.old ≡ started self.old.mark self.old.rack.now }
         requires within { WithinLimits text.now }
