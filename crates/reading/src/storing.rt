@@ -5,14 +5,14 @@ ghost use Rattle.reading.specs.Waiting.{waiting, last_function};
 ghost use Rattle.reading.specs.Yard.{site_of, added, covered_at, below, HasRoom, SameLoans};
 
 use crate::reading::Reading;
-use rack::{Item, Node, RACK_NODES};
+use rack::{Item, Node, room};
 
 impl<N> Reading<'_, N> {
     // How many nodes the rack lends.
     pub(crate) fn room(&self) -> usize
         ensures { result ≡ room self.now.rack.now }
     {
-        self.rack.len().min(RACK_NODES)
+        room(self.rack)
     }
 
     // Puts the node at the next free place, which is stored if the place is within the rack's room.
