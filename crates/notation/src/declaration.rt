@@ -83,7 +83,7 @@ fn number_of(digits: &[u8]) -> Option<u16>
     if digits.is_empty() || digits.len() > MAX_DIGITS {
         return None;
     }
-    // A `for`: the closure of a fold would know no bound on the value.
+    // A `for`: a `try_fold` with checked sums is no plainer, and the check found nothing of what it promises.
     let mut value = 0;
     for digit in digits {
         if !digit.is_ascii_digit() {

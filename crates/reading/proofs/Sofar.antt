@@ -67,6 +67,10 @@ module _ (old : List Node) (mark : ℕ) where
       let same : site mark [] rack n ≡ s = cc in
       record { tree = b; is = refl; nodes = subst (λ (v : Site). Holding old v.rack mark v.next (nodes_of (erase b))) same h }
 
+-- a step by one table is the step by a table that is the same
+pub step_by : (t u : Table) → u ≡ t → (y z : Yard) (x : Lexeme) → y ≡ step u z x → y ≡ step t z x
+step_by t u same y z x e = e ∙ ap (λ v. step v z x) same
+
 module _ (t : Table) (text : List ℕ) (old : List Node) (mark : ℕ) where
   abbrev reached : List Placed → Yard
   reached done = run t (stands Operand (site mark [] old mark)) (map lexeme done)
@@ -85,6 +89,9 @@ module _ (t : Table) (text : List ℕ) (old : List Node) (mark : ℕ) where
   pub sofar_begun : (ahead : List Placed) (d : Due) (s : Site) → ahead ≡ tokens_of text → stands d s ≡ stands Operand (site mark [] old mark) → Sofar ahead d s
   unfolding run
   sofar_begun ahead d s all e = record { done = []; split = sym all; at = sym e }
+
+  pub sofar_whole : (d : Due) (s : Site) → stands d s ≡ run t (stands Operand (site mark [] old mark)) (lexemes_of text) → Sofar [] d s
+  sofar_whole d s e = record { done = tokens_of text; split = sym (append-nil (tokens_of text)); at = sym e }
 
   reached_push : (done : List Placed) (x : Placed) (d : Due) (s : Site) → reached done ≡ stands d s → reached (done ++ (x ∷ [])) ≡ step t (stands d s) (lexeme x)
   reached_push done x d s e =
@@ -109,6 +116,13 @@ module _ (t : Table) (text : List ℕ) (old : List Node) (mark : ℕ) where
     pub sofar_room : (x : Placed) (rest : List Placed) → ahead ≡ x ∷ rest → length (tokens_of text) ≤ 1024 → s.next + length s.waiting < s.mark + 1024
     sofar_room x rest next few = omega (arith, sofar_spans.few, sofar_spans.marked, ap length h.split, length-append h.done ahead, ap length next)
 
+    -- all tokens are done
+    whole : ahead ≡ [] → map lexeme h.done ≡ lexemes_of text
+    whole end = ap (map lexeme) (sym (h.split ∙ ap (λ (l : List Placed). h.done ++ l) end ∙ append-nil h.done))
+
+    pub all_done : ahead ≡ [] → stands d s ≡ run t (stands Operand (site mark [] old mark)) (lexemes_of text)
+    all_done end = sym h.at ∙ ap (run t (stands Operand (site mark [] old mark))) (whole end)
+
     state : State
     state = M.run t M.start (map lexeme h.done)
 
@@ -123,10 +137,6 @@ module _ (t : Table) (text : List ℕ) (old : List Node) (mark : ℕ) where
       token_fails x rest next left fails =
           let told = is_refused old mark (M.step t state (lexeme x)) (step t (reached h.done) (lexeme x)) left (step_shows old mark t state (reached h.done) (lexeme x) (known t (map lexeme h.done)) shows) (ap (λ (y : Yard). step t y (lexeme x)) h.at ∙ sym fails) in
           (answered_at t lawful text h.done x rest d (h.split ∙ ap (λ (l : List Placed). h.done ++ l) next) (unrefused old mark state (reached h.done) d s shows h.at) (tells old mark state (reached h.done) d s shows h.at) told.0, told.1)
-
-      -- all tokens are done
-      whole : ahead ≡ [] → map lexeme h.done ≡ lexemes_of text
-      whole end = ap (map lexeme) (sym (h.split ∙ ap (λ (l : List Placed). h.done ++ l) end ∙ append-nil h.done))
 
       run_whole : ahead ≡ [] → state ≡ M.run t M.start (lexemes_of text)
       unfolding state

@@ -1,5 +1,5 @@
 -- One turn of the reader's loops is one step of the machine in the rack. Assumes nothing.
-use Rattle.std.proofs.Common.{◌≡◌, ℕ, ◌+◌, List, [], ◌∷◌, length, Some, None, Option, Ok, refl, ap, ◌∙◌, arith}
+use Rattle.std.proofs.Common.{◌≡◌, ℕ, ◌+◌, List, [], ◌∷◌, Some, None, Option, Ok, refl, ap, ◌∙◌, arith}
 use Rattle.notation.specs.Operators.{Op}
 use Rattle.notation.specs.Tables.{Table}
 use Rattle.grammar.specs.declared.due.Due.TheVariants.{Operator}
@@ -9,11 +9,6 @@ use Rattle.reading.specs.Waiting.{Waits, first, rest, last_function}
 use Rattle.reading.specs.Waiting.Waits.{bracket, operator}
 use Rattle.reading.specs.Yard.{Site, site, shut, shut_at, taker_of, decided, covered, settled, unwound, covered_at, below, unwound_at, settled_at}
 use Rattle.reading.specs.Yard.Yard.{stands}
-
--- where an operator is on top, one thing less waits below it
-pub one_less : (k : List Waits) (f : ℕ) → last_function k ≡ Some f → length k ≡ length (rest k) + 1
-one_less [] f e = let z : ◌≡◌ {A = ℕ} 0 1 = cc in absurd (omega arith)
-one_less (w ∷ k) f e = omega arith
 
 module _ (mark : ℕ) where
   unwound_rest : (k : List Waits) (f : ℕ) (rack : List Node) (n : ℕ) → last_function k ≡ Some f → unwound mark k rack n ≡ unwound mark (rest k) (covered mark f (rest k) rack n) (n + 1)

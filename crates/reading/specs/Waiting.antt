@@ -1,5 +1,5 @@
 -- What waits while an expression is read, the latest first.
-use Rattle.std.specs.Prelude.{ℕ, ◌+◌, ◌<◌, List, [], ◌∷◌, map, reverse, Some, None, vec_items, vec_len, Option}
+use Rattle.std.specs.Prelude.{ℕ, List, [], ◌∷◌, map, reverse, Some, None, vec_items, Option}
 use Rattle.reading.specs.declared.reader.Pending.{Pending}
 use Rattle.reading.specs.declared.reader.Reader.{Reader}
 
@@ -20,10 +20,6 @@ stacked pending = map waits_of (reverse pending)
 
 abbrev pub waiting : Reader → List Waits
 waiting reader = stacked (vec_items reader.pending)
-
--- one token more may be taken: nodes put and things that wait are fewer than the tokens that an expression may have
-abbrev pub HasRoom : Reader → Type 0
-HasRoom reader = reader.at + vec_len reader.pending < reader.mark + 1024
 
 abbrev pub first : List Waits → Option Waits
 first [] = None

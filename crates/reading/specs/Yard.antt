@@ -1,6 +1,6 @@
 -- The reading machine as it works in a rack: in place of trees it has their nodes, stored as far as the rack has room.
 -- Only the contracts of inner functions cite it.
-use Rattle.std.specs.Prelude.{ℕ, ◌+◌, ◌-◌, Bool, true, false, cond, List, [], ◌∷◌, Some, None, Option, Ok, Err, Result, nat_lt, slice_set}
+use Rattle.std.specs.Prelude.{◌≡◌, ℕ, ◌+◌, ◌-◌, ◌<◌, Bool, true, false, cond, List, [], ◌∷◌, length, Some, None, Option, Ok, Err, Result, nat_lt, slice_set}
 use Rattle.tokens.specs.declared.token.TokenKind.{TokenKind}
 use Rattle.tokens.specs.declared.token.TokenKind.TheVariants.{Word, Symbol, Open, Close}
 use Rattle.tokens.specs.Tokens.{Lexeme}
@@ -17,7 +17,7 @@ use Rattle.grammar.specs.Neighbours.{taker}
 use Rattle.grammar.specs.Weights.{fixity_in, operator_in}
 use Rattle.rack.specs.declared.node.Node.{Node}
 use Rattle.rack.specs.Nodes.{function_node, name_node, room}
-use Rattle.reading.specs.declared.reader.Reader.{Reader}
+use Rattle.reading.specs.declared.reading.Reading.{Reading}
 use Rattle.reading.specs.Waiting.{Waits, waits, waiting, rest, begins}
 use Rattle.reading.specs.Waiting.Waits.{bracket, operator}
 
@@ -31,10 +31,18 @@ pub record Site : Type 0 where
 abbrev pub site : ℕ → List Waits → List Node → ℕ → Site
 site mark k rack n = record { mark = mark; waiting = k; rack = rack; next = n }
 
+-- one token more may be taken: nodes put and things that wait are fewer than the tokens that an expression may have
+abbrev pub HasRoom : Site → Type 0
+HasRoom s = s.next + length s.waiting < s.mark + 1024
+
 -- this is due at the site; or the text has failed, which leaves the rack as it then is
 pub data Yard : Type 0 where
   stands : Due → Site → Yard
   refused : List Node → Yard
+
+-- nothing is read yet
+abbrev pub started : ℕ → List Node → Yard
+started mark rack = stands Operand (site mark [] rack mark)
 
 -- the node is stored if the place is within the rack's room
 abbrev pub stored : List Node → ℕ → Node → List Node
@@ -154,12 +162,19 @@ module _ (t : Table) where
   run y [] = y
   run y (x ∷ xs) = run (step y x) xs
 
--- where the reader stands in the rack
-abbrev pub site_of : Reader → List Node → Site
-site_of reader rack = site reader.mark (waiting reader) rack reader.at
+-- where a reading stands in its rack, whatever its notation is
+abbrev pub site_of : {N : Type 0} → Reading N → Site
+site_of reading = site reading.mark (waiting reading.reader.now) reading.rack.now reading.at
 
-abbrev pub yard_of : Reader → List Node → Yard
-yard_of reader rack = stands reader.due (site_of reader rack)
+abbrev pub yard_of : {N : Type 0} → Reading N → Yard
+yard_of reading = stands reading.due (site_of reading)
+
+-- before and after a step of a reading, the reader and the rack that are lent to it are the same ones, and so is its notation
+abbrev pub SameLoans : {N : Type 0} → Reading N → Reading N → Type 0
+SameLoans before after =
+    (after.reader.ghost_name ≡ before.reader.ghost_name) ×
+    (after.rack.ghost_name ≡ before.rack.ghost_name) ×
+    (after.notation ≡ before.notation)
 
 -- what an inner function leaves at a site: with what it tells is due next, if the text has not failed; with whether it
 -- has not failed; and with the place behind the tree's nodes, if it is finished

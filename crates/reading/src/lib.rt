@@ -3,6 +3,7 @@
 
 mod loan;
 mod neighbours;
+mod read;
 mod reader;
 mod reading;
 mod refusals;

@@ -1,11 +1,11 @@
 // What waits while an expression is read: a stack, the latest on top.
-ghost use Rattle.std.specs.Prelude.{◌≡◌, ◌≤◌, [], List, IfOk};
+ghost use Rattle.std.specs.Prelude.{◌≡◌, ◌<◌, [], ◌∷◌, length, IfOk};
 ghost use Rattle.std.specs.Option.{option_map};
-ghost use Rattle.rack.specs.declared.node.Node.{Node};
-ghost use Rattle.reading.specs.Waiting.{waiting, waits_of, first, last_function, begins, HasRoom};
-ghost use Rattle.reading.specs.Yard.{site, site_of, yard_of, stands, below, waiting_on};
+ghost use Rattle.reading.specs.Waiting.{waiting, waits_of, first, rest, last_function, begins};
+ghost use Rattle.reading.specs.Yard.{site_of, stands, waiting_on, HasRoom, SameLoans};
 
 use crate::reader::{Pending, Reader};
+use crate::reading::Reading;
 use grammar::Due;
 use std::alloc::{AllocError, Global};
 use tokens::MAX_TOKENS;
@@ -16,42 +16,33 @@ impl Reader {
         ensures { IfOk result (λ reader. waiting reader ≡ []) }
     {
         let pending = Vec::with_capacity(heap, MAX_TOKENS)?;
-        Ok(Reader {
-            pending,
-            mark: 0,
-            at: 0,
-            due: Due::Operand,
-        })
+        Ok(Reader { pending })
     }
 
-    // Begins an expression whose nodes go from `mark` on: nothing waits, and an operand is due.
-    pub(crate) fn begin(&mut self, mark: usize)
-        requires { mark ≤ 4096 }
-        ensures { (rack : List Node) → yard_of self.new rack ≡ stands Due.Operand (site mark [] rack mark) }
+    // Nothing waits any more.
+    pub(crate) fn clear(&mut self)
+        ensures { waiting self.new ≡ [] }
     {
         self.pending.clear();
-        self.mark = mark;
-        self.at = mark;
-        self.due = Due::Operand;
     }
 
-    // The function's operator, or a bracket, waits for its right operand, which is due next.
-    pub(crate) fn wait(&mut self, function: Option<u8>) -> Due
-        requires { HasRoom self.old }
-        ensures { (rack : List Node) → stands result (site_of self.new rack) ≡ stands Due.Operand (waiting_on function (site_of self.old rack)) }
+    // This waits on top.
+    pub(crate) fn push(&mut self, pending: Pending)
+        requires { length (waiting self.old) < 1024 }
+        ensures { waiting self.new ≡ waits_of pending ∷ waiting self.old }
     {
-        let from = self.at;
-        self.pending.push_reserved(Pending { function, from });
-        Due::Operand
+        self.pending.push_reserved(pending);
     }
 
+    // Takes what is on top off, and answers it, or none if nothing waits.
     pub(crate) fn pop(&mut self) -> Option<Pending>
         ensures answer { option_map waits_of result ≡ first (waiting self.old) }
-        ensures after { (rack : List Node) → site_of self.new rack ≡ below (site_of self.old rack) }
+        ensures after { waiting self.new ≡ rest (waiting self.old) }
     {
         self.pending.pop()
     }
 
+    // What is on top, or none if nothing waits.
     pub(crate) fn top(&self) -> Option<Pending>
         ensures { option_map waits_of result ≡ first (waiting self.now) }
     {
@@ -64,11 +55,24 @@ impl Reader {
     {
         self.top()?.function
     }
+}
+
+impl<N> Reading<'_, N> {
+    // The function's operator, or a bracket, waits for its right operand, which is due next.
+    pub(crate) fn wait(&mut self, function: Option<u8>) -> Due
+        requires { HasRoom (site_of self.old) }
+        ensures state { stands result (site_of self.new) ≡ stands Due.Operand (waiting_on function (site_of self.old)) }
+        ensures same { SameLoans self.old self.new }
+    {
+        let from = self.at;
+        self.reader.push(Pending { function, from });
+        Due::Operand
+    }
 
     // Where the nodes of the current operand begin.
     pub(crate) fn begins(&self) -> usize
-        ensures { result ≡ begins self.now.mark (waiting self.now) }
+        ensures { result ≡ begins self.now.mark (waiting self.now.reader.now) }
     {
-        self.top().map_or(self.mark, |pending| pending.from)
+        self.reader.top().map_or(self.mark, |pending| pending.from)
     }
 }
