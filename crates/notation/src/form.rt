@@ -72,7 +72,7 @@ impl Form {
         }
     }
 
-    // The letter left of the f, which is x where there is none.
+    // The letter left of the f, which is x where there is none. Two methods by name, as a type has two sides.
     pub fn left(self) -> Side
         ensures { result ≡ left_side self }
     {

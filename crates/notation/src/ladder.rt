@@ -54,7 +54,7 @@ fn ladder_operator(function: u8) -> Option<Operator<'static>>
 }
 
 // The function of the ladder that is listed under the spelling in the position, if there is one. The rows once more, from the
-// spelling: a search through one table of rows would compare all of them.
+// spelling: one table of them would want a search, with its proof, and reads no plainer than two matches.
 fn ladder_listed(position: Position, spelling: &[u8]) -> Option<u8>
     ensures { result ≡ listed_in ladder_rows position spelling.now }
 {

@@ -109,6 +109,7 @@ mod tests {
     // The ladder, function by function, both ways.
     #[test]
     fn the_ladder_both_ways(rt: HostRuntime) {
+        // Functions are numbers, and there is no list of them to go over.
         for function in 0..64 {
             let position = if function < 4 {
                 Position::Before

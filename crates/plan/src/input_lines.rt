@@ -37,7 +37,7 @@ impl<'a> Iterator for InputLines<'a> {
     ghost remaining = { λ s. at_most (length (ahead s)) };
 
     // The next line, without its end, or none at the end of the input. Not by `split`, which
-    // gives an empty line after a last byte 10; here there is none.
+    // gives an empty line after a last byte 10, nor by `split_inclusive`, whose parts keep theirs.
     fn next(&mut self) -> Option<&'a [u8]> {
         let bytes = self.rest;
         if bytes.is_empty() {

@@ -28,7 +28,7 @@ fn leading_digits(line: &[u8]) -> usize
 impl<'a> PlanLine<'a> {
     // Takes a line apart at the tab after its 1 to 8 digits; what follows the tab is the expression.
     // Refuses a line that has no such digits, or no tab after them.
-    // `parse`, as of `str`, and no `TryFrom`: it promises two things of its answer, each by a clause of its own.
+    // `parse`, and no `TryFrom`: what it promises by two clauses would be one member of a trait, and read no plainer.
     pub fn parse(line: &'a [u8]) -> Result<PlanLine<'a>, Fault>
         ensures answer { MatchResult result (λ p. IsPlanLine line.now p.digits.now p.expression.now) (λ f. NoPlanLine line.now × (f ≡ fault MalformedLine 0)) }
         ensures only { IfOk result (λ p. (ds es : List ℕ) → IsPlanLine line.now ds es → (ds ≡ p.digits.now) × (es ≡ p.expression.now)) }

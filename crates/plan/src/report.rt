@@ -12,7 +12,8 @@ use std::alloc::AllocError;
 pub const MAX_REPORT_BYTES: usize = 65;
 
 // Appends a byte and then a number, in decimal without leading zeros, where there is room for them. By `itoa`, and no
-// `Display`: only into a `String` does `write!` promise its bytes, and it may want memory.
+// `Display`: only into a `String` does `write!` promise its bytes, and it may want memory. What these calls say of the buffer
+// is a fact about it before and after, and of no value of a type here.
 fn push_field(out: &mut Vec<u8>, lead: u8, number: usize)
     requires { vec_len out.old + 21 ≤ vec_capacity out.old }
     ensures bytes { out.new.items ≡ out.old.items ++ lead ∷ decimal number }

@@ -11,7 +11,8 @@ use crate::node::Node;
 use crate::sound::SoundNodes;
 use tokens::{Fault, FaultKind};
 
-// Refuses a node up to the root that breaks the rules, at its place: the first there is.
+// Refuses a node up to the root that breaks the rules, at its place: the first there is. The root comes beside the rack, as what
+// is promised is a fact about the rack and not about its part up to the root.
 fn check_nodes(rack: &[Node], root: usize) -> Result<(), Fault>
     requires { root < length rack.now }
     ensures { MatchResult result (λ _. SoundBelow rack.now (root + 1)) (λ f. FirstUnsound rack.now root f.place × (f ≡ fault FaultKind.MalformedRack f.place)) }
@@ -31,7 +32,6 @@ fn check_nodes(rack: &[Node], root: usize) -> Result<(), Fault>
 }
 
 // Whether the root is among the nodes in use and before the rack's end.
-// A caller has rack, fill and root apart, and a struct of the three would be made for a call and taken apart in it.
 fn has_root(rack: &[Node], fill: &Fill, root: usize) -> bool
     ensures { MatchBool result ((root < fill.now.used) × (root < room rack.now)) (NoRoot rack.now fill.now.used root) }
 {
@@ -39,7 +39,8 @@ fn has_root(rack: &[Node], fill: &Fill, root: usize) -> bool
 }
 
 // The size of the tree at the root. Refuses a root that is not among the nodes in use or past the
-// rack's end, then the first node up to it that breaks the rules.
+// rack's end, then the first node up to it that breaks the rules. Here and in `reckon` and `functions` rack, fill and root come
+// apart, as a caller has them: a struct of the three would be made for a call and taken apart in it.
 pub fn check_tree(rack: &[Node], fill: &Fill, root: usize) -> Result<usize, Fault>
     ensures answer { Only (AtTree rack.now fill.now.used root (λ tree. Accepted (size tree))) result }
     ensures tree { IfOk result (Rooted rack.now fill.now.used root) }

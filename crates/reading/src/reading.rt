@@ -7,6 +7,7 @@ use grammar::Due;
 use rack::Node;
 
 // An expression as it is read into the rack, by the notation: what waits is in the reader.
+// That a call leaves the loans the same ones is a fact about before and after, and no invariant of one value.
 // That there is room for one token more is asked by the calls that take one, and is no fact of the type: after the
 // last token there is none.
 #[derive(Drop)]

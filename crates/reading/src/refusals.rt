@@ -1,4 +1,5 @@
-// Refusals: the fault of a token that fails, and of an end that does.
+// Refusals: the fault of a token that fails, and of an end that does. Functions, and no methods of `Reading`: they ask only of a
+// notation and a token, and change nothing.
 ghost use Rattle.std.specs.Prelude.{◌≡◌};
 ghost use Rattle.tokens.specs.Tokens.{lexeme, placed};
 ghost use Rattle.grammar.specs.Refusals.{fault_at, fault_at_end, fault_for_operator, is_unlisted_symbol};

@@ -30,7 +30,8 @@ fn operator_of(function: u8) -> Option<Operator<'static>>
     })
 }
 
-// The function of the list that is listed under the spelling in the position, if there is one.
+// The function of the list that is listed under the spelling in the position, if there is one. The rows once more, from the
+// spelling, as the ladder has them: a search through one table reads no plainer.
 fn function_listed(position: Position, spelling: &[u8]) -> Option<u8>
     ensures { result ≡ listed_in example_rows position spelling.now }
 {

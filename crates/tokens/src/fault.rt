@@ -43,7 +43,7 @@ pub enum FaultKind {
 #[derive(Clone, Copy, PartialEq, Eq)]
 pub struct Fault {
     pub kind: FaultKind,
-    // A number, as it is printed: of a byte, a field or a node, and 0 where no place is meant.
+    // A number, of a byte, a field or a node, and 0 where no place is meant, as the fault line prints it.
     pub place: usize,
 }
 

@@ -25,7 +25,8 @@ fn push_between(out: &mut Vec<u8>, last: Option<TokenKind>, next: TokenKind)
     }
 }
 
-// Appends a token that comes after one of kind `last`, if any, where there is room for it.
+// Appends a token that comes after one of kind `last`, if any, where there is room for it. What calls that append say of the
+// buffer is a fact about it before and after, and of no value of a type here.
 fn push_token(out: &mut Vec<u8>, last: Option<TokenKind>, token: Token<'_>)
     requires { vec_len out.old + length (between last (placed token).kind ++ (placed token).bytes) ≤ vec_capacity out.old }
     ensures bytes { out.new.items ≡ out.old.items ++ (between last (placed token.entry).kind ++ (placed token.entry).bytes) }
