@@ -1,0 +1,4 @@
+pub mod Answered
+pub mod FirstBytes
+pub mod Joining
+pub mod Weighed
