@@ -1,4 +1,9 @@
 pub mod Answered
 pub mod FirstBytes
 pub mod Joining
+pub mod LinePuts
+pub mod NodePuts
+pub mod Sequences
+pub mod TreeParts
+pub mod TreePuts
 pub mod Weighed

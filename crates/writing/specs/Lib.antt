@@ -2,6 +2,10 @@ pub mod ByteHoldings
 pub mod ByteViews
 pub mod CountViews
 pub mod Counts
+pub mod Lines
 pub mod Outlets
+pub mod Puts
 pub mod ShapeAnswers
 pub mod Shapes
+pub mod Unwritables
+pub mod Written
