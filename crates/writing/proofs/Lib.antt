@@ -1,9 +1,13 @@
 pub mod Answered
 pub mod FirstBytes
 pub mod Joining
+pub mod LineAnswers
 pub mod LinePuts
 pub mod NodePuts
+pub mod Ready
 pub mod Sequences
 pub mod TreeParts
 pub mod TreePuts
+pub mod ValuesThere
 pub mod Weighed
+pub mod Writables

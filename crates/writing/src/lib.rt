@@ -14,6 +14,7 @@ mod written;
 
 pub use byte_outlet::{ByteOutlet, MAX_OUTLET_BYTES, MAX_OUTLET_PAIRS};
 pub use counting_outlet::{CountingOutlet, MAX_COUNTED_BYTES, Tally};
+pub use line::LineWriter;
 pub use outlet::Outlet;
 pub use put_kind::{MAX_PUT_BYTES, PutKind};
 pub use shape::Shape;
