@@ -63,7 +63,7 @@ joined_text l r i j x y xs ys few short some =
     let small : space ≤ 1 = space_small (together (last_kind x.kind xs) y.kind) in
     let once : plus (length (spaced (x ∷ xs))) space ≡ length (spaced (x ∷ xs)) + space = plus_small (length (spaced (x ∷ xs))) space (omega arith) in
     let twice : plus (length (spaced (x ∷ xs)) + space) (length (spaced (y ∷ ys))) ≡ length (spaced (x ∷ xs)) + space + length (spaced (y ∷ ys)) =
-        plus_small (length (spaced (x ∷ xs)) + space) (length (spaced (y ∷ ys))) (omega arith) in
+    plus_small (length (spaced (x ∷ xs)) + space) (length (spaced (y ∷ ys))) (omega arith) in
     let count : length ((x ∷ xs) ++ (y ∷ ys)) ≡ length (x ∷ xs) + length (y ∷ ys) = length-append (x ∷ xs) (y ∷ ys) in
     shape_same l j _ _ _ _ _ _ x.kind _ _
     (plus_small (pairs_among (x ∷ xs)) (pairs_among (y ∷ ys)) few ∙ sym (pairs_append (x ∷ xs) (y ∷ ys)))

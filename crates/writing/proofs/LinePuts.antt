@@ -69,6 +69,6 @@ module _ {H : Type 0} (rule : Rule H) (t : Table) (digits : List ℕ) (tree : Tr
       let p = all_of rule (tokens_from rule None (labelled t (write t tree)) k) m TokenKind _ j third in
       let is : whole ≡ rule m P.LineEnd (codes "\n") = tab_put h k first second ∙ ap (put_all rule end) p.0 in
       subst (λ o. PutsTo (tt {0}) o after r) (sym is) (of_puts (rule m P.LineEnd (codes "\n")) last) where
-    of_puts : (o : Option H) → Puts o after r → PutsTo (tt {0}) o after r
-    of_puts (Some x) q = q
-    of_puts None q = q
+        of_puts : (o : Option H) → Puts o after r → PutsTo (tt {0}) o after r
+        of_puts (Some x) q = q
+        of_puts None q = q

@@ -82,10 +82,10 @@ module _ {H : Type 0} (rule : Rule H) where
   puts_then last xs ys k j i before mid after r at first second =
       let done = all_of (tokens_from last xs before) mid TokenKind k i first in
       let is : tokens_from last (xs ++ ys) before ≡ tokens_from (Some i) ys mid =
-          ap (λ ps. put_all rule ps (Some before)) (puts_append last xs ys)
-          ∙ all_append (token_puts last xs) (token_puts (after_last last xs) ys) (Some before)
-          ∙ ap (put_all rule (token_puts (after_last last xs) ys)) done.0
-          ∙ ap (λ l. put_all rule (token_puts l ys) (Some mid)) (at ∙ ap Some (sym done.1)) in
+      ap (λ ps. put_all rule ps (Some before)) (puts_append last xs ys)
+      ∙ all_append (token_puts last xs) (token_puts (after_last last xs) ys) (Some before)
+      ∙ ap (put_all rule (token_puts (after_last last xs) ys)) done.0
+      ∙ ap (λ l. put_all rule (token_puts l ys) (Some mid)) (at ∙ ap Some (sym done.1)) in
       subst (λ o. PutsTo j o after r) (sym is) second
 
   -- where some are refused, so are they with what comes after them
@@ -95,10 +95,10 @@ module _ {H : Type 0} (rule : Rule H) where
   puts_refused last xs ys k j before mid after f first =
       let done = none_of (tokens_from last xs before) mid TokenKind k f first in
       let is : tokens_from last (xs ++ ys) before ≡ None =
-          ap (λ ps. put_all rule ps (Some before)) (puts_append last xs ys)
-          ∙ all_append (token_puts last xs) (token_puts (after_last last xs) ys) (Some before)
-          ∙ ap (put_all rule (token_puts (after_last last xs) ys)) done.0
-          ∙ all_none (token_puts (after_last last xs) ys) in
+      ap (λ ps. put_all rule ps (Some before)) (puts_append last xs ys)
+      ∙ all_append (token_puts last xs) (token_puts (after_last last xs) ys) (Some before)
+      ∙ ap (put_all rule (token_puts (after_last last xs) ys)) done.0
+      ∙ all_none (token_puts (after_last last xs) ys) in
       subst (λ o. PutsTo j o after (Err f)) (sym is) (ap Err done.1)
 
   -- the tokens are put, and the kind of the last is answered

@@ -91,10 +91,10 @@ module _ (t : Table) where
   pair_shape : (n : ℕ) (b : Bracketed) → n < 900000 → Sized n (lexemes t b) → bracketed (shape_of t b) ≡ shape_of t (pair b)
   pair_shape n b small h =
       let first : joined (token_shape K.Open 1) (shape_of t b) ≡ text_shape 0 (right_weight t b) (opening ∷ lexemes t b) =
-          join_sized 0 0 (left_weight t b) (right_weight t b) 16 n (opening ∷ []) (lexemes t b) opening_sized h (omega arith) in
+      join_sized 0 0 (left_weight t b) (right_weight t b) 16 n (opening ∷ []) (lexemes t b) opening_sized h (omega arith) in
       ap (λ a. joined a (token_shape K.Close 1)) first
       ∙ join_sized 0 (right_weight t b) 0 0 (16 + 1 + n) 16 (opening ∷ lexemes t b) (closing ∷ [])
-        (sized_append 16 n (opening ∷ []) (lexemes t b) opening_sized h) closing_sized (omega arith)
+      (sized_append 16 n (opening ∷ []) (lexemes t b) opening_sized h) closing_sized (omega arith)
 
   paired_sized : (n : ℕ) (admitted : Bool) (b : Bracketed) → Sized n (lexemes t b) → Sized (n + 34) (lexemes t (W.paired admitted b))
   paired_sized n true b h = sized_more _ _ _ (omega arith) h
@@ -127,7 +127,7 @@ module _ (t : Table) where
         ap (λ r. weighing 0 (max o.priority r.right) (joined (sign_shape o) r)) (paired_shape n (admits_right t f b) b small h)
         ∙ ap (λ s. weighing 0 (max o.priority (right_weight t b′)) (joined s (shape_of t b′))) (token_text (sign_of t f))
         ∙ ap (weighing 0 (max o.priority (right_weight t b′)))
-          (join_sized 0 0 (left_weight t b′) (right_weight t b′) 16 (n + 34) (sign_of t f ∷ []) (lexemes t b′) (sign_sized f) (paired_sized n (admits_right t f b) b h) (omega arith))
+        (join_sized 0 0 (left_weight t b′) (right_weight t b′) 16 (n + 34) (sign_of t f ∷ []) (lexemes t b′) (sign_sized f) (paired_sized n (admits_right t f b) b h) (omega arith))
 
     postfixed_sized : (n f : ℕ) (a : Bracketed) → Sized n (lexemes t a) → Sized (n + 51) (lexemes t (postfixed f (as_left t f a)))
     postfixed_sized n f a h =
@@ -142,7 +142,7 @@ module _ (t : Table) where
         ap (λ r. weighing (max o.priority r.left) 0 (joined r (sign_shape o))) (paired_shape n (admits_left t f a) a small h)
         ∙ ap (λ s. weighing (max o.priority (left_weight t a′)) 0 (joined (shape_of t a′) s)) (token_text (sign_of t f))
         ∙ ap (weighing (max o.priority (left_weight t a′)) 0)
-          (join_sized (left_weight t a′) (right_weight t a′) 0 0 (n + 34) 16 (lexemes t a′) (sign_of t f ∷ []) (paired_sized n (admits_left t f a) a h) (sign_sized f) (omega arith))
+        (join_sized (left_weight t a′) (right_weight t a′) 0 0 (n + 34) 16 (lexemes t a′) (sign_of t f ∷ []) (paired_sized n (admits_left t f a) a h) (sign_sized f) (omega arith))
 
     infixed_sized : (m n f : ℕ) (a b : Bracketed) → Sized m (lexemes t a) → Sized n (lexemes t b) → Sized (m + n + 86) (lexemes t (infixed f (as_left t f a) (as_right t f b)))
     infixed_sized m n f a b h k =
@@ -166,10 +166,10 @@ module _ (t : Table) where
         ∙ ap (whole (shape_of t a′)) right
         ∙ ap (λ s. outer (joined (joined (shape_of t a′) s) (shape_of t b′))) (token_text (sign_of t f))
         ∙ ap (λ s. outer (joined s (shape_of t b′)))
-          (join_sized (left_weight t a′) (right_weight t a′) 0 0 (m + 34) 16 (lexemes t a′) (sign_of t f ∷ []) sized_a (sign_sized f) (omega arith))
+        (join_sized (left_weight t a′) (right_weight t a′) 0 0 (m + 34) 16 (lexemes t a′) (sign_of t f ∷ []) sized_a (sign_sized f) (omega arith))
         ∙ ap outer
-          (join_sized (left_weight t a′) 0 (left_weight t b′) (right_weight t b′) (m + 34 + 1 + 16) (n + 34) (lexemes t a′ ++ (sign_of t f ∷ [])) (lexemes t b′)
-            (sized_append (m + 34) 16 (lexemes t a′) (sign_of t f ∷ []) sized_a (sign_sized f)) sized_b (omega arith))
+        (join_sized (left_weight t a′) 0 (left_weight t b′) (right_weight t b′) (m + 34 + 1 + 16) (n + 34) (lexemes t a′ ++ (sign_of t f ∷ [])) (lexemes t b′)
+        (sized_append (m + 34) 16 (lexemes t a′) (sign_of t f ∷ []) sized_a (sign_sized f)) sized_b (omega arith))
         ∙ ap (text_shape (max o.priority (left_weight t a′)) (max o.priority (right_weight t b′))) (append_assoc (lexemes t a′) (sign_of t f ∷ []) (lexemes t b′))
 
     single_weighed : (k : Fixity) (n f : ℕ) (b : Bracketed) → n < 900000 → Sized n (lexemes t b)
@@ -192,14 +192,16 @@ module _ (t : Table) where
         (token_text (word w), sized_more 16 100 (word w ∷ []) (omega arith) (sized_one (word w) short))
     weighed (one f x) (low, proper) small =
         let inner = weighed x proper (omega arith) in
-        let outer = one_weighed (t f) (100 * size x) f (write t x) (omega arith) inner.1 in
-        (ap (single_shape (fixity_of (operator_in t f).form) (operator_in t f)) inner.0 ∙ outer.0,
-            sized_more (100 * size x + 51) (100 * (size x + 1)) _ (omega arith) outer.1)
+        let outer = one_weighed (t f) (100 * size x) f (write t x) (omega arith) inner.1 in (
+          ap (single_shape (fixity_of (operator_in t f).form) (operator_in t f)) inner.0 ∙ outer.0,
+          sized_more (100 * size x + 51) (100 * (size x + 1)) _ (omega arith) outer.1,
+        )
     weighed (two f x y) (low, high, proper_x, proper_y) small =
         let first = weighed x proper_x (omega arith) in
-        let second = weighed y proper_y (omega arith) in
-        (ap (λ a. infixed_shape (operator_in t f) a (fold (shapes t) y)) first.0
-            ∙ ap (infixed_shape (operator_in t f) (shape_of t (write t x))) second.0
-            ∙ infixed_weighed (100 * size x) (100 * size y) f (write t x) (write t y) (omega arith) first.1 second.1,
-            sized_more (100 * size x + 100 * size y + 86) (100 * (size x + size y + 1)) _ (omega arith)
-            (infixed_sized (100 * size x) (100 * size y) f (write t x) (write t y) first.1 second.1))
+        let second = weighed y proper_y (omega arith) in (
+          ap (λ a. infixed_shape (operator_in t f) a (fold (shapes t) y)) first.0
+              ∙ ap (infixed_shape (operator_in t f) (shape_of t (write t x))) second.0
+              ∙ infixed_weighed (100 * size x) (100 * size y) f (write t x) (write t y) (omega arith) first.1 second.1,
+          sized_more (100 * size x + 100 * size y + 86) (100 * (size x + size y + 1)) _ (omega arith)
+              (infixed_sized (100 * size x) (100 * size y) f (write t x) (write t y) first.1 second.1),
+        )

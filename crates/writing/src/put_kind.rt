@@ -24,13 +24,11 @@ impl PutKind {
         ensures { Decides result (LawfulLength self length) }
     {
         match self {
-            PutKind::Margin | PutKind::Name | PutKind::Operator => (1..=MAX_PUT_BYTES)
-                .contains(&length),
-            PutKind::Tab
-            | PutKind::Open
-            | PutKind::Close
-            | PutKind::Blank
-            | PutKind::LineEnd => length == 1,
+            PutKind::Margin | PutKind::Name | PutKind::Operator => (1..=MAX_PUT_BYTES).contains(
+                &length,
+            ),
+            PutKind::Tab | PutKind::Open | PutKind::Close | PutKind::Blank | PutKind::LineEnd =>
+                length == 1,
         }
     }
 

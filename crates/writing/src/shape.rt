@@ -70,10 +70,7 @@ impl Shape {
             left: self.left,
             right: next.right,
             pairs: self.pairs.saturating_add(next.pairs),
-            bytes: self
-                .bytes
-                .saturating_add(space)
-                .saturating_add(next.bytes),
+            bytes: self.bytes.saturating_add(space).saturating_add(next.bytes),
             tokens: self.tokens.saturating_add(next.tokens),
             first: self.first,
             last: next.last,

@@ -43,7 +43,9 @@ impl<N: Notation> Rules for Weighing<'_, N> {
         let operator = operator_of(self.notation, function);
         match operator.form {
             Form::Xf | Form::Yf => Shape::postfixed(operand, operator),
-            Form::Fx | Form::Fy | Form::Xfx | Form::Xfy | Form::Yfx => { Shape::prefixed(operator, operand) }
+            Form::Fx | Form::Fy | Form::Xfx | Form::Xfy | Form::Yfx => {
+                Shape::prefixed(operator, operand)
+            }
         }
     }
 

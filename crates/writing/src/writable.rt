@@ -1,6 +1,5 @@
 // Whether a tree can be written in a notation.
 ghost use Rattle.std.specs.Prelude.{◌≡◌, ℕ, ◌+◌, ◌-◌, ◌<◌, ◌^◌, length, MatchBool, MatchResult};
-
 ghost use Rattle.writing.specs.Lines.{Digits, unwritable};
 ghost use Rattle.writing.specs.Unwritables.{FirstIn, NoneIn};
 
@@ -26,8 +25,9 @@ fn fault_of<N: Notation>(notation: &N, item: &Item) -> Option<FaultKind>
         Item::Name(name) => {
             let word = name.word();
             (notation.listed(Position::Before, word).is_some()
-                || notation.listed(Position::After, word).is_some())
-            .then_some(FaultKind::NameListed)
+                || notation.listed(Position::After, word).is_some()).then_some(
+                FaultKind::NameListed,
+            )
         }
         Item::Function(function) => match notation.operator(*function) {
             Some(_) => None,

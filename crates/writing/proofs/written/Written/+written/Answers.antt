@@ -45,7 +45,7 @@ put_tree-returns-in_err-sign-in-Fx-clause-answer g t c tree l =
     let p = err_from_is_err_and c.from_residual.result c.from_residual.ensures.1 in
     let table = g.N.Notation.table c.args.self.now.notation.now in
     let node = at_prefix_unsigned g.O.Outlet.rule table c.args.self.now.nodes.now c.args.self.now.shapes.now c.requires.ready c.args.at c.requires.within c.in-Function.function c.in-Function.is
-        (meant c.operator_of-operator.result) c.operator_of-operator.ensures c.args.last (g.O.Outlet.holding c.args.outlet.now) tree l in
+    (meant c.operator_of-operator.result) c.operator_of-operator.ensures c.args.last (g.O.Outlet.holding c.args.outlet.now) tree l in
     rw (p.1, p.2) (node (g.O.Outlet.holding c.put_sign.new.outlet) (g.O.Outlet.holding c.put_sign.new.outlet) c.in_err-sign-in-Fx.field-0.0 c.in-Fx.is c.in_err-sign-in-Fx.ensures.answer)
 
 pub put_tree-returns-in_ok-sign-in-Fx-clause-answer :
@@ -53,7 +53,7 @@ pub put_tree-returns-in_ok-sign-in-Fx-clause-answer :
 put_tree-returns-in_ok-sign-in-Fx-clause-answer g t c tree l =
     let table = g.N.Notation.table c.args.self.now.notation.now in
     let node = at_prefix g.O.Outlet.rule table c.args.self.now.nodes.now c.args.self.now.shapes.now c.requires.ready c.args.at c.requires.within c.in-Function.function c.in-Function.is
-        (meant c.operator_of-operator.result) c.operator_of-operator.ensures c.args.last (g.O.Outlet.holding c.args.outlet.now) tree l in
+    (meant c.operator_of-operator.result) c.operator_of-operator.ensures c.args.last (g.O.Outlet.holding c.args.outlet.now) tree l in
     node c.in_ok-sign-in-Fx.sign c.right_limit.result (g.O.Outlet.holding c.put_sign.new.outlet) (g.O.Outlet.holding c.put_operand.new.outlet) c.put_operand.result c.in-Fx.is c.right_limit.ensures c.in_ok-sign-in-Fx.ensures.answer
     (λ x m. (_, c.put_operand.ensures.answer x m))
 
@@ -63,7 +63,7 @@ put_tree-returns-in_err-end-in-Xf-clause-answer g t c tree l =
     let p = err_from_is_err_and c.from_residual-in_err-end-in-Xf.result c.from_residual-in_err-end-in-Xf.ensures.1 in
     let table = g.N.Notation.table c.args.self.now.notation.now in
     let node = at_postfix_unfilled g.O.Outlet.rule table c.args.self.now.nodes.now c.args.self.now.shapes.now c.requires.ready c.args.at c.requires.within c.in-Function.function c.in-Function.is
-        (meant c.operator_of-operator.result) c.operator_of-operator.ensures c.args.last (g.O.Outlet.holding c.args.outlet.now) tree l in
+    (meant c.operator_of-operator.result) c.operator_of-operator.ensures c.args.last (g.O.Outlet.holding c.args.outlet.now) tree l in
     rw (p.1, p.2) (node c.left_limit.result (g.O.Outlet.holding c.put_operand-in-Xf.new.outlet) (g.O.Outlet.holding c.put_operand-in-Xf.new.outlet) c.in_err-end-in-Xf.field-0.0 c.in-Xf.is c.left_limit.ensures (λ x m. (_, c.in_err-end-in-Xf.ensures.answer x m)))
 
 pub put_tree-returns-in_ok-end-in-Xf-clause-answer :
@@ -71,7 +71,7 @@ pub put_tree-returns-in_ok-end-in-Xf-clause-answer :
 put_tree-returns-in_ok-end-in-Xf-clause-answer g t c tree l =
     let table = g.N.Notation.table c.args.self.now.notation.now in
     let node = at_postfix g.O.Outlet.rule table c.args.self.now.nodes.now c.args.self.now.shapes.now c.requires.ready c.args.at c.requires.within c.in-Function.function c.in-Function.is
-        (meant c.operator_of-operator.result) c.operator_of-operator.ensures c.args.last (g.O.Outlet.holding c.args.outlet.now) tree l in
+    (meant c.operator_of-operator.result) c.operator_of-operator.ensures c.args.last (g.O.Outlet.holding c.args.outlet.now) tree l in
     node c.in_ok-end-in-Xf.end c.left_limit.result (g.O.Outlet.holding c.put_operand-in-Xf.new.outlet) (g.O.Outlet.holding c.put_sign-in-Xf.new.outlet) c.put_sign-in-Xf.result c.in-Xf.is c.left_limit.ensures (λ x m. (_, c.in_ok-end-in-Xf.ensures.answer x m)) c.put_sign-in-Xf.ensures.answer
 
 pub put_tree-overflow_sub-first : goal.put_tree-overflow_sub-first
@@ -80,7 +80,7 @@ put_tree-overflow_sub-first g t c =
     let nodes = c.args.self.now.nodes.now in
     let (tree, only) = one_tree_lies nodes c.args.at (λ i lt. c.requires.ready.sound i (omega arith)) in
     let there = infix_there g.O.Outlet.rule table nodes c.args.self.now.shapes.now c.requires.ready c.args.at c.requires.within c.in-Function.function c.in-Function.is
-        (meant c.operator_of-operator.result) c.operator_of-operator.ensures c.args.last (g.O.Outlet.holding c.args.outlet.now) tree only.is c.in-Xfx.is in
+    (meant c.operator_of-operator.result) c.operator_of-operator.ensures c.args.last (g.O.Outlet.holding c.args.outlet.now) tree only.is c.in-Xfx.is in
     omega (arith, there.begins)
 
 pub put_tree-returns-in_err-end-in-Xfx-clause-answer :
@@ -89,7 +89,7 @@ put_tree-returns-in_err-end-in-Xfx-clause-answer g t c tree l =
     let p = err_from_is_err_and c.from_residual-in_err-end-in-Xfx.result c.from_residual-in_err-end-in-Xfx.ensures.1 in
     let table = g.N.Notation.table c.args.self.now.notation.now in
     let node = at_infix_unfilled g.O.Outlet.rule table c.args.self.now.nodes.now c.args.self.now.shapes.now c.requires.ready c.args.at c.requires.within c.in-Function.function c.in-Function.is
-        (meant c.operator_of-operator.result) c.operator_of-operator.ensures c.args.last (g.O.Outlet.holding c.args.outlet.now) tree l in
+    (meant c.operator_of-operator.result) c.operator_of-operator.ensures c.args.last (g.O.Outlet.holding c.args.outlet.now) tree l in
     rw (p.1, p.2) (node c.in-Xfx.is (c.args.at - 1 - size_at c.args.self.now.nodes.now (c.args.at - 1)) refl c.left_limit-in-Xfx.result c.left_limit-in-Xfx.ensures (g.O.Outlet.holding c.put_operand-in-Xfx.new.outlet) (g.O.Outlet.holding c.put_operand-in-Xfx.new.outlet) c.in_err-end-in-Xfx.field-0.0 (λ x m. (_, c.in_err-end-in-Xfx.ensures.answer x m)))
 
 pub put_tree-returns-in_err-sign-in-Xfx-clause-answer :
@@ -98,7 +98,7 @@ put_tree-returns-in_err-sign-in-Xfx-clause-answer g t c tree l =
     let p = err_from_is_err_and c.from_residual-in_err-sign-in-Xfx.result c.from_residual-in_err-sign-in-Xfx.ensures.1 in
     let table = g.N.Notation.table c.args.self.now.notation.now in
     let node = at_infix_unsigned g.O.Outlet.rule table c.args.self.now.nodes.now c.args.self.now.shapes.now c.requires.ready c.args.at c.requires.within c.in-Function.function c.in-Function.is
-        (meant c.operator_of-operator.result) c.operator_of-operator.ensures c.args.last (g.O.Outlet.holding c.args.outlet.now) tree l in
+    (meant c.operator_of-operator.result) c.operator_of-operator.ensures c.args.last (g.O.Outlet.holding c.args.outlet.now) tree l in
     rw (p.1, p.2) (node c.in-Xfx.is (c.args.at - 1 - size_at c.args.self.now.nodes.now (c.args.at - 1)) refl c.left_limit-in-Xfx.result c.left_limit-in-Xfx.ensures c.in_ok-end-in-Xfx.end (g.O.Outlet.holding c.put_operand-in-Xfx.new.outlet) (g.O.Outlet.holding c.put_sign-in-Xfx.new.outlet) (g.O.Outlet.holding c.put_sign-in-Xfx.new.outlet) c.in_err-sign-in-Xfx.field-0.0 (λ x m. (_, c.in_ok-end-in-Xfx.ensures.answer x m)) c.in_err-sign-in-Xfx.ensures.answer)
 
 pub put_tree-returns-in_ok-sign-in-Xfx-clause-answer :
@@ -106,6 +106,6 @@ pub put_tree-returns-in_ok-sign-in-Xfx-clause-answer :
 put_tree-returns-in_ok-sign-in-Xfx-clause-answer g t c tree l =
     let table = g.N.Notation.table c.args.self.now.notation.now in
     let node = at_infix g.O.Outlet.rule table c.args.self.now.nodes.now c.args.self.now.shapes.now c.requires.ready c.args.at c.requires.within c.in-Function.function c.in-Function.is
-        (meant c.operator_of-operator.result) c.operator_of-operator.ensures c.args.last (g.O.Outlet.holding c.args.outlet.now) tree l in
+    (meant c.operator_of-operator.result) c.operator_of-operator.ensures c.args.last (g.O.Outlet.holding c.args.outlet.now) tree l in
     node c.in-Xfx.is (c.args.at - 1 - size_at c.args.self.now.nodes.now (c.args.at - 1)) refl c.left_limit-in-Xfx.result c.left_limit-in-Xfx.ensures c.in_ok-end-in-Xfx.end c.in_ok-sign-in-Xfx.sign c.right_limit-in-Xfx.result (g.O.Outlet.holding c.put_operand-in-Xfx.new.outlet) (g.O.Outlet.holding c.put_sign-in-Xfx.new.outlet) (g.O.Outlet.holding c.put_operand-in-Xfx-2.new.outlet) c.put_operand-in-Xfx-2.result c.right_limit-in-Xfx.ensures (λ x m. (_, c.in_ok-end-in-Xfx.ensures.answer x m)) c.in_ok-sign-in-Xfx.ensures.answer
     (λ x m. (_, c.put_operand-in-Xfx-2.ensures.answer x m))
