@@ -4,6 +4,7 @@ pub mod Joining
 pub mod LineAnswers
 pub mod LinePuts
 pub mod NodePuts
+pub mod PutBytes
 pub mod Ready
 pub mod Sequences
 pub mod TreeParts

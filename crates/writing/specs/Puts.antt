@@ -9,7 +9,7 @@ use Rattle.notation.specs.Tables.{Table}
 use Rattle.grammar.specs.Trees.{Tree, Bracketed}
 use Rattle.grammar.specs.Trees.Bracketed.{named, pair, prefixed, postfixed, infixed}
 use Rattle.grammar.specs.Reading.{word, opening, closing, sign_of}
-use Rattle.grammar.specs.Writing.{write}
+use Rattle.grammar.specs.Writing.{write, written}
 use Rattle.writing.specs.declared.put_kind.PutKind.{PutKind}
 use Rattle.writing.specs.declared.put_kind.PutKind.TheVariants.{Margin, Tab, Name, Operator, Open, Close, Blank, LineEnd}
 use Rattle.writing.specs.Outlets.{Rule}
@@ -70,3 +70,7 @@ module _ {H : Type 0} (rule : Rule H) where
 abbrev pub PutsTo : {H X : Type 0} → X → Option H → H → Result X Fault → Type 0
 PutsTo x (Some h) after r = (r ≡ Ok x) × (after ≡ h)
 PutsTo x None after r = r ≡ Err (fault OutletRefused 0)
+
+-- The law: their bytes are the line, digits, a tab, the text that the writing rule gives the tree, and a line feed.
+abbrev pub PutsAreTheLine : Type 0
+PutsAreTheLine = (t : Table) (digits : List ℕ) (tree : Tree) → bytes_put (line_puts t digits tree) ≡ digits ++ (9 ∷ (written t tree ++ (10 ∷ [])))
