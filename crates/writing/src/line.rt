@@ -45,7 +45,9 @@ fn put_whole<N: Notation, O: Outlet>(
 
 impl LineWriter {
     // With the memory for every line, or the error that there is not so much.
-    pub fn new(alloc: Global) -> Result<LineWriter, AllocError> {
+    pub fn new(alloc: Global) -> Result<LineWriter, AllocError>
+        ensures { IfOk result (λ writer. vec_len writer.shapes ≡ 4096) }
+    {
         let shapes = vec![in alloc; Shape::EMPTY; RACK_NODES]?;
         Ok(LineWriter { shapes })
     }
