@@ -118,5 +118,13 @@ module _ (t : Table) (p : Position) (s : List ℕ) where
   pub listed_only : LawfulTable t → (f : ℕ) → listed t p s ≡ Some f → Only (Listed t p s) f
   listed_only lawful f e = let is = listed_is f e in record { is = is; only = λ g also. lawful.once p s g f also is }
 
+-- a function from 64 on has no operator
+pub none_past : (t : Table) → LawfulTable t → (f : ℕ) → 64 ≤ f → t f ≡ None
+none_past t lawful f past = none_at (t f) refl
+  where
+    none_at : (o : Option Op) → t f ≡ o → o ≡ None
+    none_at None has = refl
+    none_at (Some o) has = absurd (omega (arith, (lawful.each f o has).function))
+
 pub inside : (t : Table) → LawfulTable t → (f : ℕ) (o : Op) → t f ≡ Some o → f < 64
 inside t lawful f o has = (lawful.each f o has).function
