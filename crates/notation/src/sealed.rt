@@ -1,6 +1,7 @@
 // Sealing a list, which makes it a notation.
 ghost use Rattle.std.specs.Prelude.{◌≡◌};
 ghost use Rattle.notation.specs.Chains.{FirstsIn, NextsIn};
+ghost use Rattle.notation.specs.Tables.{listed};
 ghost use Rattle.notation.specs.Views.{open_table, sealed_table};
 ghost use Rattle.notation.specs.Laws.{lawful_in};
 
@@ -49,16 +50,12 @@ impl OpenList {
     }
 }
 
-impl Notation for SealedList {
-    ghost table = { sealed_table };
-
-    ghost lawful = { λ n. lawful_in (sealed_table n) n.list.lawful };
-
-    fn operator(&self, function: u8) -> Option<Operator<'_>> {
-        self.list.operator(function)
-    }
-
-    fn listed(&self, position: Position, spelling: &[u8]) -> Option<u8> {
+impl SealedList {
+    // The function that is listed under the spelling in the position, if there is one. A function of its own, so that a wrong
+    // position in the trait's answer is refused for what is answered, and for nothing of the loop.
+    fn find(&self, position: Position, spelling: &[u8]) -> Option<u8>
+        ensures { result ≡ listed (sealed_table self.now) position spelling.now }
+    {
         let first = spelling.first()?;
         let mut next = self.firsts[usize::from(*first)];
         while let Some(function) = next {
@@ -69,5 +66,19 @@ impl Notation for SealedList {
             next = self.nexts[slot];
         }
         None
+    }
+}
+
+impl Notation for SealedList {
+    ghost table = { sealed_table };
+
+    ghost lawful = { λ n. lawful_in (sealed_table n) n.list.lawful };
+
+    fn operator(&self, function: u8) -> Option<Operator<'_>> {
+        self.list.operator(function)
+    }
+
+    fn listed(&self, position: Position, spelling: &[u8]) -> Option<u8> {
+        self.find(position, spelling)
     }
 }

@@ -10,7 +10,7 @@ use Rattle.notation.specs.Laws.{lawful_in}
 use Rattle.notation.proofs.Chained.{along_end, along_within, along_begins, along_more, ahead, along_less}
 use Rattle.notation.specs.LookupsLemmas.{test_listed, listed_test, is_listed_lem, listed_none, inside}
 use Rattle.notation.proofs.Seals.{none_empty}
-use Rattle.notation.proofs.sealed.SealedListNotation.listed.Goals as goal
+use Rattle.notation.proofs.list.SealedList.find.Goals as goal
 
 pub returns-in_err-first : goal.returns-in_err-first
 returns-in_err-first c =
