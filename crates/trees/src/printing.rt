@@ -4,6 +4,12 @@ use notation::operands_of;
 use rack::{Item, Node};
 use std::alloc::AllocError;
 
+// Appends the number of the function. Never within `push_tree`, whose frame would hold the digits at each level of a tree.
+#[inline(never)]
+fn push_function(out: &mut Vec<u8>, function: u8) -> Result<(), AllocError> {
+    out.extend_from_slice(Buffer::new().format(function).as_bytes())
+}
+
 // Appends the tree whose root is the last of the nodes. Its operands lie before it, the last of them next to it.
 pub(crate) fn push_tree(out: &mut Vec<u8>, nodes: &[Node]) -> Result<(), AllocError> {
     let [operands @ .., root] = nodes else {
@@ -13,7 +19,7 @@ pub(crate) fn push_tree(out: &mut Vec<u8>, nodes: &[Node]) -> Result<(), AllocEr
         Item::Name(name) => return out.extend_from_slice(name.word()),
         Item::Function(function) => function,
     };
-    out.extend_from_slice(Buffer::new().format(function).as_bytes())?;
+    push_function(out, function)?;
     out.extend_from_slice(b"(")?;
     if let [.., last] = operands {
         if operands_of(function) == 2 {
