@@ -3,7 +3,6 @@ pub mod LawfulSections
 pub mod Outputs
 pub mod Parts
 pub mod Counts
-pub mod PlanAhead
 pub mod ReadLines
 pub mod Sectioning
 pub mod Splits

@@ -5,6 +5,7 @@ pub mod InputLines
 pub mod LinesAhead
 pub mod NumberedAhead
 pub mod PlanLines
+pub mod PlanLinesAhead
 pub mod Plans
 pub mod Reports
 pub mod SectionViews

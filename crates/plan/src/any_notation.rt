@@ -33,6 +33,7 @@ impl Notation for AnyNotation {
         }
     }
 
+    #[inline]
     fn listed(&self, position: Position, spelling: &[u8]) -> Option<u8> {
         match self {
             AnyNotation::Ladder(ladder) => ladder.listed(position, spelling),

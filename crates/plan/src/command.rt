@@ -6,7 +6,7 @@ ghost use Rattle.plan.specs.Appends.{Appended, WithinRoom};
 ghost use Rattle.plan.specs.Command.{Output};
 ghost use Rattle.plan.specs.InputLines.{counted_lines};
 ghost use Rattle.plan.specs.NumberedAhead.{numbered_ahead};
-ghost use Rattle.plan.specs.Plans.{begins_tail, ComesOutAs, up_to_tail, PlanOutput, room_for};
+ghost use Rattle.plan.specs.Plans.{ComesOutAs, up_to_tail, PlanOutput, room_for};
 ghost use Rattle.plan.specs.Sections.{TwoNotations};
 ghost use Rattle.plan.specs.SectionViews.{both_read};
 ghost use Rattle.plan.specs.AnyNotations.{any_table};
@@ -17,6 +17,7 @@ use crate::input_fault::InputFault;
 use crate::numbered_lines::{NumberedLine, NumberedLines};
 use crate::outcome::Outcome;
 use crate::plan_line::PlanLine;
+use crate::plan_lines::PlanLines;
 use crate::report::{push_fault_line, push_tail};
 use crate::sections::read_notation;
 use crate::tally::Tally;
@@ -65,13 +66,6 @@ pub fn translate_line<N: Notation>(
     }
 }
 
-// Whether the line begins with `#`, as the tail of a plan does.
-fn begins_tail(line: &[u8]) -> bool
-    ensures { result ≡ begins_tail line.now }
-{
-    matches!(line, [b'#', ..])
-}
-
 // Appends what each line of the plan becomes, up to one that begins its tail, and then the tail of the output.
 fn translate_plan(
     work: &mut Workspace,
@@ -83,7 +77,7 @@ fn translate_plan(
     ensures succeeds { vec_len out.old + room_for (up_to_tail (numbered_ahead lines.entry)) ≤ vec_capacity out.old → is_ok result ≡ true }
 {
     let mut tally = Tally::default();
-    for line in lines.take_while(|line| !begins_tail(line.bytes)) {
+    for line in PlanLines::new(lines) {
         let outcome = translate_line(work, out, line, notation)?;
         tally.count(outcome);
     }
