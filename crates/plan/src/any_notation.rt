@@ -33,6 +33,7 @@ impl Notation for AnyNotation {
         }
     }
 
+    // Inlined, as a reader asks for a position that stands in its code.
     #[inline]
     fn listed(&self, position: Position, spelling: &[u8]) -> Option<u8> {
         match self {
