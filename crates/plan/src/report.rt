@@ -22,7 +22,7 @@ fn push_field(out: &mut Vec<u8>, lead: u8, number: usize)
 {
     let mut digits = Buffer::new();
     out.push_reserved(lead);
-    // One by one: by `extend_from_slice` a fault line with short numbers takes half as many instructions again.
+    // One by one: by `extend_from_slice` a fault line and a tail with short numbers take half as many instructions again.
     for digit in digits.format(number).as_bytes() {
         out.push_reserved(*digit);
     }

@@ -57,9 +57,8 @@ impl<'a> Iterator for Cutter<'a> {
     ghost remaining = { λ s. at_most (length (ahead s)) };
 
     // The next token, or none where only separators are left. Its first byte is classed once: with the separators cut off before
-    // it is looked at, a text of brackets takes a third to twice as many instructions. A run of words or of symbols has a call
-    // of its own, for a kind that stands there: by one call for both, a long run takes a fifth more. Inlined, as most tokens
-    // are short.
+    // it is looked at, a text of brackets takes up to twice as many instructions. A run of words or of symbols has a call of its
+    // own, for a kind that stands there: by one call for both, a long run takes a fifth more. Inlined, as most tokens are short.
     #[inline(always)]
     fn next(&mut self) -> Option<Token<'a>> {
         while let Some((first, more)) = self.rest.split_first() {
